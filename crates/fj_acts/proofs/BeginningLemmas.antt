@@ -10,8 +10,9 @@ use Rattle.fj_modes.specs.Modes as mode
 use Rattle.fj_modes.specs.declared.modes.Modes.{Modes}
 use Rattle.fj_modes.specs.declared.specifiers.OpenSpec.{OpenSpec}
 use Rattle.fj_modes.specs.declared.asked.Wanted.{Wanted}
-use Rattle.fj_modes.specs.declared.asked.Subject.{Subject}
-use Rattle.fj_modes.specs.declared.unit.UnitRef.{UnitRef}
+use Rattle.fj_statement.specs.declared.unit.Subject.{Subject}
+use Rattle.fj_statement.specs.declared.unit.UnitRef.{UnitRef}
+use Rattle.fj_statement.specs.Units.{is_outside}
 use Rattle.fj_control.specs.Steps.{Given}
 use Rattle.fj_connect.specs.Connection.{Connection}
 use Rattle.fj_connect.specs.Opening.{opened_file}
@@ -27,7 +28,7 @@ use Rattle.fj_plain.specs.Statement.{control_by, file_asked}
 use Rattle.fj_desk.specs.Core.{Core, Connected, connected_at, unit_named}
 use Rattle.fj_desk.specs.Desks.{Outcome, most_slots}
 use Rattle.fj_desk.specs.Doing.{Doing, finishes}
-use Rattle.fj_desk.specs.Acting.{all_closed, asks_connection, attaches, changes, closes, closes_anyway, closes_first, connects, connects_at, doing, free_from, if_numbered, inquires, instead, is_taken, opens, opens_with, own, unit_at}
+use Rattle.fj_desk.specs.Acting.{all_closed, asks_connection, attaches, changes, closes, closes_anyway, closes_first, connects, connects_at, doing, free_from, if_numbered, inquires, instead, is_taken, opens, opens_unit, opens_with, own, unit_at}
 use Rattle.fj_items.specs.Handing.{HandsFront, HandsPart, whole_records}
 use Rattle.fj_items.proofs.Prints.{on_err}
 use Rattle.fj_acts.specs.Doing.{AsksAbout, looks}
@@ -80,9 +81,13 @@ opens_output core number spec (Some u) =
     either_output core (keeps_name u.name spec spec.file) (changes core u (mode.changed u.modes spec)) (opens_with core number spec (Some u) (settled spec))
     (changes_output core u (mode.changed u.modes spec)) (another_output core number spec (Some u) (settled spec))
 
-numbered_output : (core : Core) (number : Option ℕ) (spec : OpenSpec) → (core_at (if_numbered core number (λ n. opens core n spec (connected_at core.units n)))).output ≡ core.output
-numbered_output core None spec = refl
-numbered_output core (Some n) spec = opens_output core n spec (connected_at core.units n)
+unit_output : (core : Core) (which : UnitRef) (number : ℕ) (spec : OpenSpec) (found : Option Connected) → (core_at (opens_unit core which number spec found)).output ≡ core.output
+unit_output core which number spec None = either_output core (is_outside which) (finishes core (condition.Error 3)) (opens core number spec None) refl (opens_output core number spec None)
+unit_output core which number spec (Some u) = opens_output core number spec (Some u)
+
+numbered_output : (core : Core) (which : UnitRef) (number : Option ℕ) (spec : OpenSpec) → (core_at (if_numbered core number (λ n. opens_unit core which n spec (connected_at core.units n)))).output ≡ core.output
+numbered_output core which None spec = refl
+numbered_output core which (Some n) spec = unit_output core which n spec (connected_at core.units n)
 
 inquires_output : (variables : List Variable) (core : Core) (number : Option ℕ) (file : Option (List ℕ)) (asked : List Wanted) (id : Option ℤ) (found : Option Connected) → (core_at (inquires variables core number file asked id found)).output ≡ core.output
 inquires_output variables core number file asked id None = refl
@@ -142,7 +147,7 @@ pub open_front : {A E : Type 0} (r : Result A E) (taken : List ℕ) (variables :
     → OnErr r (HandsFront taken taken core.output (core_at (own (control_by what) variables line core what)).output)
 open_front r taken variables line core what unit spec iostat e =
     takes_nothing r taken core (own (control_by what) variables line core what)
-    (ap (λ (d : Doing). (core_at d).output) (sym (own_is variables line core what (statement.OpenUnit unit spec iostat) e)) ∙ numbered_output core (number_of unit) spec)
+    (ap (λ (d : Doing). (core_at d).output) (sym (own_is variables line core what (statement.OpenUnit unit spec iostat) e)) ∙ numbered_output core unit (number_of unit) spec)
 
 pub close_front : {A E : Type 0} (r : Result A E) (taken : List ℕ) (variables : List Variable) (line : ℕ) (core : Core) (what : Statement) (unit : UnitRef) (keep : Option Bool) (iostat : Option Place) → what ≡ statement.CloseUnit unit keep iostat
     → OnErr r (HandsFront taken taken core.output (core_at (own (control_by what) variables line core what)).output)

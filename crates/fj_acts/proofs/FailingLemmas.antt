@@ -7,9 +7,9 @@ use Rattle.fj_value.specs.declared.condition.Condition.{Condition}
 use Rattle.fj_value.specs.declared.condition.Condition.TheVariants.{Fine}
 use Rattle.fj_modes.specs.Modes.{settled}
 use Rattle.fj_modes.specs.declared.asked.Wanted.{Wanted}
-use Rattle.fj_modes.specs.declared.unit.Motion.{Motion}
-use Rattle.fj_modes.specs.declared.unit.UnitRef.{UnitRef}
-use Rattle.fj_modes.specs.declared.unit.UnitRef.TheVariants as unit
+use Rattle.fj_modes.specs.declared.motion.Motion.{Motion}
+use Rattle.fj_statement.specs.declared.unit.UnitRef.{UnitRef}
+use Rattle.fj_statement.specs.declared.unit.UnitRef.TheVariants as unit
 use Rattle.fj_control.specs.Steps.{Given}
 use Rattle.fj_list.specs.declared.moved.Moved.{Moved}
 use Rattle.fj_statement.specs.declared.deck.Variable.{Variable}
@@ -41,7 +41,7 @@ use Rattle.fj_plain.specs.Telling.{is_asynchronous}
 use Rattle.fj_plain.specs.Transfers.{moved_in}
 use Rattle.fj_plain.specs.State.{Files}
 use Rattle.fj_plain.proofs.Units.{bytes_differ}
-use Rattle.fj_desk.specs.Acting.{all_closed, attaches, connects, changes, opens, moves, inquires, asks_connection, transferred, transfer_at, if_numbered, unit_at, own, doing}
+use Rattle.fj_desk.specs.Acting.{all_closed, attaches, connects, opens_unit, moves, inquires, asks_connection, transferred, transfer_at, if_numbered, unit_at, own, doing}
 use Rattle.fj_desk.proofs.Walking.{either, unit_by, closes_by, anyway_by, connects_by as new_by, open_by, doing_by}
 use Rattle.fj_desk.specs.Core.{Core as PlainCore, Connected, connected_at, unit_named, without_connected}
 use Rattle.fj_desk.specs.Desks.{Outcome, condition_in, look_in}
@@ -106,9 +106,9 @@ goes_on_there what core (after.Connects number) = opens_there what number core
 
 -- ---- so are those of what a statement does first
 
-open_there : (core : PlainCore) (number : Option ℕ) (spec : OpenSpec) → Leaves core (if_numbered core number (λ n. opens core n spec (connected_at core.units n)))
-open_there core number spec =
-    open_by (Leaves core) core spec number (ends_there core) (λ n u modes is e. record { units = refl; files = λ name other. refl }) (λ n modes is e. connects_there n spec modes core)
+open_there : (core : PlainCore) (ref : UnitRef) (number : Option ℕ) (spec : OpenSpec) → Leaves core (if_numbered core number (λ n. opens_unit core ref n spec (connected_at core.units n)))
+open_there core ref number spec =
+    open_by (Leaves core) core ref spec number (ends_there core) (λ n u modes is e. record { units = refl; files = λ name other. refl }) (λ n modes is e. connects_there n spec modes core)
     (λ n u modes is e other. record { units = refl; files = λ name other. refl })
 
 moved_there : (core : PlainCore) (how : Motion) (old : Option Connected) → Leaves core (moves core how old)
@@ -128,10 +128,14 @@ module _ (control : ℕ → List Given) (variables : List Variable) (line : ℕ)
   at_there t moved unit.Star = record { units = refl; files = λ name other. refl }
   at_there t moved (unit.Number n) =
       unit_by (Leaves core) control variables line core t moved (connected_at core.units n) (λ condition. record { units = refl; files = λ name other. refl }) (λ u e. carried_there t moved u)
+  at_there t moved (unit.Held place n) =
+      unit_by (Leaves core) control variables line core t moved (connected_at core.units n) (λ condition. record { units = refl; files = λ name other. refl }) (λ u e. carried_there t moved u)
+  at_there t moved (unit.New place n) =
+      unit_by (Leaves core) control variables line core t moved (connected_at core.units n) (λ condition. record { units = refl; files = λ name other. refl }) (λ u e. carried_there t moved u)
 
   own_there : (what : Statement) → Leaves core (own control variables line core what)
   own_there (statement.Assign to from) = record { units = refl; files = λ name other. refl }
-  own_there (statement.OpenUnit u spec iostat) = open_there core (number_of u) spec
+  own_there (statement.OpenUnit u spec iostat) = open_there core u (number_of u) spec
   own_there (statement.CloseUnit u keep iostat) = closes_by (Leaves core) core keep (unit_at core (number_of u)) (ends_there core) (λ u e. record { units = refl; files = λ name other. refl })
   own_there (statement.WaitFor u id iostat) = ends_there core Fine
   own_there (statement.Move how u iostat) = moved_there core how (unit_at core (number_of u))

@@ -3,8 +3,8 @@ use Rattle.std.proofs.Common.{◌≡◌, ◌||◌, ℕ, Bool, true, false, List,
 use Rattle.std.specs.Prelude.{◌==◌, if◌then◌else◌, IfSome}
 use Rattle.std.proofs.lemmas.Bool.{eq-eqb}
 use Rattle.std.specs.Str.{bytes_eq}
-use Rattle.fj_modes.specs.declared.asked.Subject.{Subject}
-use Rattle.fj_modes.specs.declared.asked.Subject.TheVariants as subject
+use Rattle.fj_statement.specs.declared.unit.Subject.{Subject}
+use Rattle.fj_statement.specs.declared.unit.Subject.TheVariants as subject
 use Rattle.fj_plain.specs.Needs.{unit_about}
 use Rattle.fj_plain.specs.Statement.{file_asked}
 use Rattle.fj_desk.specs.Core.{Connected, connected_at, has_name, unit_named}

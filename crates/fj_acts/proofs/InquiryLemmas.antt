@@ -1,6 +1,6 @@
 -- Answers of INQUIRE, as the program and as plain data have them.
-use Rattle.std.proofs.Common.{◌≡◌, ◌||◌, ◌&&◌, map, ℕ, Bool, true, false, List, [], ◌∷◌, ◌++◌, Option, Some, None, refl, sym, ap, subst, ◌∙◌}
-use Rattle.std.specs.Prelude.{ℤ, pos, ◌+◌, ◌==◌, codes, if◌then◌else◌, is_some}
+use Rattle.std.proofs.Common.{◌≡◌, map, ℕ, Bool, true, false, List, [], ◌∷◌, ◌++◌, Option, Some, None, refl, sym, ap, subst, ◌∙◌}
+use Rattle.std.specs.Prelude.{ℤ, pos, ◌+◌, codes, if◌then◌else◌, is_some}
 use Rattle.std.specs.Option.{option_map, option_map_or}
 use Rattle.fj_value.specs.Kind.{fits_bits}
 use Rattle.fj_value.specs.declared.edit.Delim.{Delim}
@@ -29,9 +29,9 @@ use Rattle.fj_inquire.specs.declared.connected.Connected.{Connected}
 use Rattle.fj_items.proofs.Values.{cut_is}
 use Rattle.std.proofs.Math.Path.{fun_ext}
 use Rattle.std.specs.List.{list_any}
-use Rattle.std.specs.Ordering.{int_eq}
 use Rattle.fj_value.specs.declared.condition.Condition.TheVariants.{Fine}
-use Rattle.fj_modes.specs.declared.asked.Subject.{Subject}
+use Rattle.fj_statement.specs.Units.{number_from_code}
+use Rattle.fj_statement.specs.declared.unit.Subject.{Subject}
 use Rattle.fj_statement.specs.declared.statement.Operand.{Operand}
 use Rattle.fj_statement.specs.declared.statement.Statement.{Statement}
 use Rattle.fj_statement.specs.declared.statement.Statement.TheVariants as statement
@@ -170,7 +170,7 @@ size_alike (Some look) = refl
 
 -- of a connection
 pub connection_alike : (n : ℕ) (file : Option (List ℕ)) (c : Connected) (look : Option Look) (pending : Bool)
-    → AnswersAlike (told.connection (pos n) c look pending) (about_connected n file c.name c.modes (option_map looked_of look) pending)
+    → AnswersAlike (told.connection (number_from_code n) c look pending) (about_connected n file c.name c.modes (option_map looked_of look) pending)
 connection_alike n file c look pending question.Exist = refl
 connection_alike n file c look pending question.Opened = refl
 connection_alike n file c look pending question.Number = refl
@@ -242,11 +242,11 @@ answers_is variables files old new cells asked about p is alike back =
 -- of a unit that is connected
 pub unit_answers_alike : (files : Files) (old : Kept) (o : Option ℕ) (n : ℕ) (u : PlainConnected) (file : Option (List ℕ)) (id : Option ℤ) (look : Option Look) (c : Connected) (pending : Bool)
     → Some n ≡ o → u.number ≡ n → c.name ≡ u.name → c.modes ≡ u.modes → pending ≡ has_pending (holders old.pending) (Some n) id
-    → AnswersAlike (told.connection (pos n) c look pending) (about_unit (core_of files old) o file id u (option_map looked_of look))
+    → AnswersAlike (told.connection (number_from_code n) c look pending) (about_unit (core_of files old) o file id u (option_map looked_of look))
 unit_answers_alike files old o n u file id look c pending at number name modes is =
     let seen : Option Looked = option_map looked_of look in
     let here : List Holder = pending_holders (core_of files old).book in
-    subst (λ p. AnswersAlike (told.connection (pos n) c look pending) p)
+    subst (λ p. AnswersAlike (told.connection (number_from_code n) c look pending) p)
     (ap (λ b. about_connected n file c.name c.modes seen b) (is ∙ ap (λ hs. has_pending hs (Some n) id) (book_is old.pending) ∙ ap (λ x. has_pending here x id) at)
     ∙ ap (λ m. about_connected n file c.name m seen (has_pending here o id)) modes
     ∙ ap (λ m. about_connected n file m u.modes seen (has_pending here o id)) name

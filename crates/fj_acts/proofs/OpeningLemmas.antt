@@ -1,6 +1,6 @@
 -- What OPEN does, as jobs and how the statement goes on.
-use Rattle.std.proofs.Common.{◌≡◌, ℕ, Bool, true, false, List, [], ◌∷◌, ◌++◌, Option, Some, None, Result, Ok, Err, refl, sym, ap, subst, ◌∙◌}
-use Rattle.std.specs.Prelude.{option_map, if◌then◌else◌, IfOk}
+use Rattle.std.proofs.Common.{Bor, option_copied, ◌≡◌, ℕ, Bool, true, false, List, [], ◌∷◌, ◌++◌, Option, Some, None, Result, Ok, Err, refl, sym, ap, subst, ◌∙◌, ◌⊎◌, inl, inr}
+use Rattle.std.specs.Prelude.{option_map, is_some, if◌then◌else◌, IfOk}
 use Rattle.std.specs.FinSet as set
 use Rattle.fj_value.specs.declared.condition.Condition.{Condition}
 use Rattle.fj_value.specs.declared.condition.Condition.TheVariants.{Error}
@@ -20,8 +20,8 @@ use Rattle.fj_outside.specs.declared.errors.Stop.{Stop}
 use Rattle.fj_statement.specs.declared.deck.Variable.{Variable}
 use Rattle.fj_bay.specs.Jobs.{attach, change}
 use Rattle.fj_bay.specs.declared.job.Job.TheVariants as job
-use Rattle.fj_modes.specs.declared.unit.UnitRef.{UnitRef}
-use Rattle.fj_modes.specs.declared.unit.UnitRef.TheVariants as unit
+use Rattle.fj_statement.specs.declared.unit.UnitRef.{UnitRef}
+use Rattle.fj_statement.specs.Units.{is_outside}
 use Rattle.fj_plain.specs.Needs.{number_of}
 use Rattle.fj_plain.specs.Connecting.{file_due, keeps_name}
 use Rattle.fj_plain.specs.State.{Files, without_file}
@@ -29,7 +29,7 @@ use Rattle.fj_plain.specs.Statement.{Stated}
 use Rattle.fj_desk.specs.Core.{Core, Connected, connected_at, inserted}
 use Rattle.fj_desk.specs.Desks.{condition_in, most_slots}
 use Rattle.fj_desk.specs.Doing.{Doing, finishes, awaits}
-use Rattle.fj_desk.specs.Acting.{attaches, changes, closes_first, connects, connects_at, detaches, free_from, if_numbered, is_taken, keeps, opens, opens_with}
+use Rattle.fj_desk.specs.Acting.{attaches, changes, closes_first, connects, connects_at, detaches, free_from, if_numbered, is_taken, keeps, opens, opens_unit, opens_with}
 use Rattle.fj_units.specs.Names.{AreInUse, left_of, stands}
 use Rattle.fj_units.specs.Units.{with_modes}
 use Rattle.fj_units.proofs.Files.{names-out_of, names-vain}
@@ -147,8 +147,27 @@ opens_behind {F = F} told bytes variables st core number name spec modes old u r
     subst (λ (d : Doing). IsDoing told bytes variables st core result d) (opens_first core number name spec modes old u r found some is_ok is_name free)
     (subst (λ (d : Given F). IsDoing told bytes variables st core d (detaches core u (keeps u) (connects u.number spec modes))) (sym is_result) with_number)
 
-pub numbered : (core : Core) (which : UnitRef) (n : ℕ) (next : ℕ → Doing) → which ≡ unit.Number n → next n ≡ if_numbered core (number_of which) next
-numbered core which n next e = ap (λ u. if_numbered core (number_of u) next) (sym e)
+opens_here : (core : Core) (which : UnitRef) (n : ℕ) (spec : OpenSpec) (old : Option Connected) → (is_outside which ≡ false) ⊎ (is_some old ≡ true) → opens core n spec old ≡ opens_unit core which n spec old
+opens_here core which n spec None (inl e) = sym (ap (λ b. if b then finishes core (Error 3) else opens core n spec None) e)
+opens_here core which n spec None (inr e) = cc
+opens_here core which n spec (Some u) h = refl
+
+-- of a unit that is connected, or whose number is one that there is
+pub opens_numbered : (core : Core) (which : UnitRef) (n : ℕ) (spec : OpenSpec) → number_of which ≡ Some n → (is_outside which ≡ false) ⊎ (is_some (connected_at core.units n) ≡ true)
+    → opens core n spec (connected_at core.units n) ≡ if_numbered core (number_of which) (λ k. opens_unit core which k spec (connected_at core.units k))
+opens_numbered core which n spec e h =
+    opens_here core which n spec (connected_at core.units n) h ∙ sym (ap (λ o. if_numbered core o (λ k. opens_unit core which k spec (connected_at core.units k))) e)
+
+pub found_some : {A B : Type 0} (f : A → B) (r : Option (Bor A)) (p : Option B) → option_map f (option_copied r) ≡ p → is_some r ≡ true → is_some p ≡ true
+found_some f None p e s = cc
+found_some f (Some u) p e s = ap is_some (sym e)
+
+-- of any other
+pub opens_out : (core : Core) (which : UnitRef) (n : ℕ) (spec : OpenSpec) → number_of which ≡ Some n → is_outside which ≡ true → connected_at core.units n ≡ None
+    → finishes core (Error 3) ≡ if_numbered core (number_of which) (λ k. opens_unit core which k spec (connected_at core.units k))
+opens_out core which n spec e out none =
+    sym (ap (λ o. if_numbered core o (λ k. opens_unit core which k spec (connected_at core.units k))) e ∙ ap (opens_unit core which n spec) none
+    ∙ ap (λ b. if b then finishes core (Error 3) else opens core n spec None) out)
 
 pub opens_again : (core : Core) (number : ℕ) (spec : OpenSpec) (old : Option Connected) (u : Connected) → old ≡ Some u → keeps_name u.name spec spec.file ≡ true
     → changes core u (mode.changed u.modes spec) ≡ opens core number spec old

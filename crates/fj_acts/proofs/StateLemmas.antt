@@ -56,18 +56,19 @@ book_more (h ∷ hs) p = ap (λ l. h.pending ∷ l) (book_more hs p)
 pub entered_is : (files : Files) (variables : List Variable) (old new : Core) (t : Transfer) (unit slot number : ℕ)
     → held new.pending ≡ held old.pending ++ unanswered (pending_under variables old.next t unit slot number) ∷ []
     → values_of new.store ≡ with_number variables t.id (pos old.next) (values_of old.store) → new.next ≡ old.next + 1
-    → new.units ≡ old.units → new.output ≡ old.output → new.tells ≡ old.tells
+    → new.units ≡ old.units → new.output ≡ old.output → new.tells ≡ old.tells → new.new_unit ≡ old.new_unit
     → core_of files new ≡ entered variables (core_of files old) t unit slot number
-entered_is files variables old new t unit slot number more values next units output tells =
-    let made : Variables → List PlainHeld → List Connected → Output → ℕ → List Said → PlainCore =
-    λ v hs u o n l. record { vars = v; book = map (λ (h : PlainHeld). h.pending) hs; units = u; files = files; output = o; next = n; tells = tells_of l } in
+entered_is files variables old new t unit slot number more values next units output tells new_unit =
+    let made : Variables → List PlainHeld → List Connected → Output → ℕ → List Said → ℕ → PlainCore =
+    λ v hs u o n l w. record { new_unit = w; vars = v; book = map (λ (h : PlainHeld). h.pending) hs; units = u; files = files; output = o; next = n; tells = tells_of l } in
     let due : Variables = with_number variables t.id (pos old.next) (values_of old.store) in
     let all : List PlainHeld = held old.pending ++ unanswered (pending_under variables old.next t unit slot number) ∷ [] in
-    ap (λ v. made v (held new.pending) new.units new.output new.next new.tells) values
-    ∙ ap (λ hs. made due hs new.units new.output new.next new.tells) more
-    ∙ ap (λ u. made due all u new.output new.next new.tells) units
-    ∙ ap (λ o. made due all old.units o new.next new.tells) output
-    ∙ ap (λ n. made due all old.units old.output n new.tells) next
-    ∙ ap (λ l. made due all old.units old.output (old.next + 1) l) tells
-    ∙ ap (λ b. (let r : PlainCore = record { vars = due; book = b; units = old.units; files = files; output = old.output; next = old.next + 1; tells = tells_of old.tells } in r))
+    ap (λ v. made v (held new.pending) new.units new.output new.next new.tells new.new_unit) values
+    ∙ ap (λ hs. made due hs new.units new.output new.next new.tells new.new_unit) more
+    ∙ ap (λ u. made due all u new.output new.next new.tells new.new_unit) units
+    ∙ ap (λ o. made due all old.units o new.next new.tells new.new_unit) output
+    ∙ ap (λ n. made due all old.units old.output n new.tells new.new_unit) next
+    ∙ ap (λ l. made due all old.units old.output (old.next + 1) l new.new_unit) tells
+    ∙ ap (λ w. made due all old.units old.output (old.next + 1) old.tells w) new_unit
+    ∙ ap (λ b. (let r : PlainCore = record { vars = due; book = b; units = old.units; files = files; output = old.output; next = old.next + 1; new_unit = old.new_unit; tells = tells_of old.tells } in r))
     (book_more (held old.pending) (pending_under variables old.next t unit slot number))

@@ -5,7 +5,7 @@ use Rattle.std.specs.Str.{bytes_eq}
 use Rattle.std.proofs.lemmas.Slice.Eq.{bytes_eq-Decides}
 use Rattle.fj_value.specs.declared.condition.Condition.TheVariants.{Fine, Error}
 use Rattle.fj_modes.specs.declared.specifiers.OpenSpec.{OpenSpec}
-use Rattle.fj_modes.specs.declared.unit.UnitRef.{UnitRef}
+use Rattle.fj_statement.specs.declared.unit.UnitRef.{UnitRef}
 use Rattle.fj_value.specs.declared.place.Place.{Place}
 use Rattle.fj_outside.specs.Holdings.{Holdings}
 use Rattle.fj_connect.specs.Connection.{Connection}

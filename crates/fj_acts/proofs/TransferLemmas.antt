@@ -1,10 +1,11 @@
 -- What READ and WRITE do, as jobs and how the statement goes on.
 use Rattle.std.proofs.Common.{◌≡◌, ◌⊎◌, inl, inr, ℕ, Bool, true, false, List, [], Option, Some, None, Result, Ok, Err, IfOk, refl, sym, ap, subst, append-nil, ◌∙◌}
 use Rattle.std.specs.Prelude.{if◌then◌else◌, OnErr}
-use Rattle.fj_modes.specs.declared.unit.UnitRef.{UnitRef}
-use Rattle.fj_modes.specs.declared.unit.UnitRef.TheVariants as unit
+use Rattle.fj_statement.specs.declared.unit.UnitRef.{UnitRef}
+use Rattle.fj_statement.specs.declared.unit.UnitRef.TheVariants as unit
 use Rattle.fj_items.specs.Handing.{HandsFront, whole_records}
 use Rattle.fj_items.specs.declared.lost.Lost.{Lost}
+use Rattle.fj_value.specs.declared.place.Place.{Place}
 use Rattle.fj_value.specs.declared.condition.Condition.{Condition}
 use Rattle.fj_value.specs.declared.condition.Condition.TheVariants.{Fine, EndOfFile, EndOfRecord, Error}
 use Rattle.fj_control.specs.Steps.{Given}
@@ -182,13 +183,23 @@ stays control variables line core t moved None = refl
 stays control variables line core t moved (Some u) = stays_under control variables line core t moved u (refusal u.modes t (layout_of variables moved.cells t.control))
 
 -- so a sink that took nothing took a front of what was due
-pub hands_nothing : {X : Type 0} (r : Result X Lost) (taken : List ℕ) (control : ℕ → List Given) (variables : List Variable) (line : ℕ) (core : Core) (t : Transfer) (moved : Moved) (n : ℕ) → t.unit ≡ unit.Number n
+-- a unit that is written by its number, or has it from a place
+abbrev pub IsOf : ℕ → UnitRef → Type 0
+IsOf n u = (u ≡ unit.Number n) ⊎ (((place : Place) × (u ≡ unit.Held place n)) ⊎ ((place : Place) × (u ≡ unit.New place n)))
+
+pub on_number : (control : ℕ → List Given) (variables : List Variable) (line : ℕ) (core : Core) (t : Transfer) (moved : Moved) (n : ℕ) (u : UnitRef) → IsOf n u
+    → on_unit control variables line core t moved (connected_at core.units n) ≡ transfer_at control variables line core t moved u
+on_number control variables line core t moved n u (inl e) = ap (transfer_at control variables line core t moved) (sym e)
+on_number control variables line core t moved n u (inr (inl e)) = ap (transfer_at control variables line core t moved) (sym e.1)
+on_number control variables line core t moved n u (inr (inr e)) = ap (transfer_at control variables line core t moved) (sym e.1)
+
+pub hands_nothing : {X : Type 0} (r : Result X Lost) (taken : List ℕ) (control : ℕ → List Given) (variables : List Variable) (line : ℕ) (core : Core) (t : Transfer) (moved : Moved) (n : ℕ) → IsOf n t.unit
     → OnErr r (HandsFront taken taken core.output (core_at (transfer_at control variables line core t moved t.unit)).output)
 hands_nothing (Ok x) taken control variables line core t moved n is = tt
 hands_nothing (Err lost) taken control variables line core t moved n is = (
   [],
   [],
-  ap (λ (to : UnitRef). whole_records (core_at (transfer_at control variables line core t moved to)).output) is
+  ap (λ (d : Doing). whole_records (core_at d).output) (sym (on_number control variables line core t moved n t.unit is))
       ∙ ap whole_records (stays control variables line core t moved (connected_at core.units n))
       ∙ sym (append-nil (whole_records core.output)),
   sym (append-nil taken),

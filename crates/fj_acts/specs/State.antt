@@ -17,6 +17,7 @@ core_of files core = record {
   files = files;
   output = core.output;
   next = core.next;
+  new_unit = core.new_unit;
   tells = tells_of core.tells;
 }
 

@@ -32,9 +32,9 @@ use crate::transfers::{read_or_write, refuse};
 use fj_bay::Job;
 use fj_connect::Positioning;
 use fj_items::{Lost, assign};
-use fj_modes::{Motion, UnitRef};
+use fj_modes::Motion;
 use fj_outside::{Disk, FileStore, Sink};
-use fj_statement::{Lined, Statement, Variables};
+use fj_statement::{Lined, Statement, UnitRef, Variables};
 use fj_value::Condition;
 use std::alloc::Global;
 

@@ -3,6 +3,7 @@ ghost use Rattle.std.specs.Prelude.{◌≡◌, IfOk};
 ghost use Rattle.fj_plain.specs.Connecting.{file_due, keeps_name};
 
 use fj_modes::{FileName, FileStatus, OpenSpec};
+use fj_statement::unit_number;
 use std::alloc::{AllocError, Global};
 
 /// The name of a new connection's file: of a scratch file by the unit, that of FILE=, or by default by the unit.
@@ -10,7 +11,7 @@ pub(crate) fn file_due(alloc: Global, spec: &OpenSpec, number: u32) -> Result<Fi
     ensures { IfOk result (λ name. name ≡ file_due spec.now number) }
 {
     if spec.status == Some(FileStatus::Scratch) {
-        return FileName::scratch(alloc, i64::from(number));
+        return FileName::scratch(alloc, unit_number(number));
     }
     match &spec.file {
         Some(name) => name.try_clone(),

@@ -6,6 +6,7 @@ ghost use Rattle.fj_outside.specs.Faults.{Rose};
 ghost use Rattle.fj_modes.specs.declared.asked.Wanted.{Wanted};
 ghost use Rattle.fj_store.specs.Storage.{values_of};
 ghost use Rattle.fj_bay.specs.Plain.{looked_of};
+ghost use Rattle.fj_statement.specs.Units.{number_from_code};
 ghost use Rattle.fj_inquire.specs.Inquiring as told;
 ghost use Rattle.fj_plain.specs.Needs.{unit_about, number_given};
 ghost use Rattle.fj_plain.specs.State.{Files};
@@ -32,9 +33,9 @@ use fj_connect::Look;
 use fj_inquire::{Connected, inquire_file, inquire_unit};
 use fj_items::{Lost, give_back, number_given};
 use fj_list::Cells;
-use fj_modes::{Asked, FileName, Question, Subject, UnitRef};
+use fj_modes::{Asked, FileName, Question};
 use fj_outside::{Disk, FileStore};
-use fj_statement::{Operand, Variables};
+use fj_statement::{Operand, Subject, Variables, unit_number};
 use fj_units::{Connected as Unit, Names, Units};
 use fj_value::{Boxed, Condition, Items};
 use std::alloc::{AllocError, Global};
@@ -44,8 +45,7 @@ fn unit_about(units: &Units, subject: &Subject) -> Option<u32>
     ensures { result ≡ unit_about (unit_named units.now) subject.now }
 {
     match subject {
-        Subject::Unit(UnitRef::Star) => None,
-        Subject::Unit(UnitRef::Number(number)) => Some(*number),
+        Subject::Unit(unit) => unit.number(),
         Subject::File(name) => units.named(name),
     }
 }
@@ -157,7 +157,7 @@ fn told_of(
     asked: &Asked,
 ) -> Result<Cells, AllocError>
     ensures { IfOk result (λ cells. cells
-        ≡ told.inquired (told.connection (pos number) (record { modes = unit.now.modes; name = unit.now.name }) look pending) asked.now) }
+        ≡ told.inquired (told.connection (number_from_code number) (record { modes = unit.now.modes; name = unit.now.name }) look pending) asked.now) }
 {
     let connected = Connected {
         modes: unit.modes,
@@ -166,7 +166,7 @@ fn told_of(
     let mut cells = Items::new(alloc);
     inquire_unit(
         alloc,
-        i64::from(number),
+        unit_number(number),
         Some(&connected),
         look,
         pending,

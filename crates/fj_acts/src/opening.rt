@@ -10,7 +10,7 @@ ghost use Rattle.fj_plain.specs.State.{Files, without_file};
 ghost use Rattle.fj_plain.specs.Statement.{Stated};
 ghost use Rattle.fj_plain.specs.Connecting.{file_due};
 ghost use Rattle.fj_desk.specs.Core.{Core as PlainCore, Connected as PlainConnected, connected_at, has_name, inserted};
-ghost use Rattle.fj_desk.specs.Acting.{attaches, connects, opens, opens_with, changes, if_numbered};
+ghost use Rattle.fj_desk.specs.Acting.{attaches, connects, opens, opens_unit, opens_with, changes, if_numbered};
 ghost use Rattle.fj_connect.specs.Connection.{Connection as PlainConnection};
 ghost use Rattle.fj_connect.specs.Linked.{connection_of};
 ghost use Rattle.fj_connect.specs.Opening.{opened_file};
@@ -37,8 +37,9 @@ use crate::state::Core;
 use fj_bay::Job;
 use fj_connect::{Connection, OpenFault, open_file};
 use fj_items::Lost;
-use fj_modes::{FileName, Modes, OpenSpec, UnitRef, settle_open};
+use fj_modes::{FileName, Modes, OpenSpec, settle_open};
 use fj_outside::{Disk, FileStore};
+use fj_statement::UnitRef;
 use fj_units::{Connected, Units};
 use fj_value::{Boxed, Condition};
 use std::alloc::Global;
@@ -252,6 +253,50 @@ fn open_other<D: Disk>(
 }
 
 /// OPEN: of the same file other modes, else another file.
+fn open_numbered<D: Disk>(
+    alloc: Global,
+    number: u32,
+    spec: &OpenSpec,
+    core: &mut Core,
+    disk: &mut D,
+) -> Result<Doing<D::File>, Lost>
+    requires { D.tells disk.old → AreInUse core.old.names (D.held disk.old).in_use }
+    ensures doing { D.tells disk.old → (variables : List Variable) (st : Stated) → AsksToOpen st.0.what spec.now → IfOk result (λ next. IsDoing D.File.told D.File.bytes variables st
+        (core_of (files_of (D.held disk.new)) core.new) next
+        (opens (core_of (files_of (D.held disk.old)) core.old) number spec.now (connected_at core.old.units number))) }
+    ensures fault { D.tells disk.old → result ≡ Err Lost.Disk → FailsWhere
+        (opens (core_of (files_of (D.held disk.old)) core.old) number spec.now (connected_at core.old.units number))
+        core.new (D.held disk.new) (D.refusals disk.old) (D.refusals disk.new) }
+    ensures stays { D.tells disk.old → OnErr result (AreStill
+        (opens (core_of (files_of (D.held disk.old)) core.old) number spec.now (connected_at core.old.units number))
+        (D.held disk.old) (D.held disk.new)) }
+    ensures own { D.tells disk.old → D.refusals disk.old ≤ D.refusals disk.new }
+    ensures units { core.new.units ≡ core.old.units }
+    ensures names { D.tells disk.old → AreInUse core.new.names (D.held disk.new).in_use }
+    ensures store { core.new.store ≡ core.old.store }
+    ensures output { core.new.output ≡ core.old.output }
+    ensures tells { core.new.tells ≡ core.old.tells }
+    ensures telling { D.tells disk.old ↔ D.tells disk.new }
+    ensures later { D.count disk.old ≤ D.count disk.new }
+    ensures failed { result ≡ Err Lost.Disk → Rose (D.count disk.old) (D.count disk.new) }
+    ensures sink { result ≢ Err Lost.Sink }
+    ensures pending { core.new.pending ≡ core.old.pending }
+    ensures next { core.new.next ≡ core.old.next }
+    ensures fits { HaveFiles core.old.names core.old.units → result ≢ Err Lost.Unfit }
+    ensures placed { IfOk result IsPlaced }
+    ensures files { (what : Statement) → OpensAt what (Some number) spec.now → HaveFiles core.old.names core.old.units
+        → IfOk result (λ next. HaveNext next core.new.names core.new.units what) }
+    ensures vain { HaveFiles core.old.names core.old.units → OnErr result (HaveFiles core.new.names core.new.units) }
+{
+    if let Some(unit) = core.units.find(number) {
+        if keeps_name(&unit.name, spec) {
+            return Ok(change(number, unit, spec));
+        }
+    }
+    open_other(alloc, number, spec, core, disk)
+}
+
+/// OPEN of a unit; 3 where it is not connected and its number is outside those that there are.
 pub(crate) fn open<D: Disk>(
     alloc: Global,
     unit: UnitRef,
@@ -263,14 +308,14 @@ pub(crate) fn open<D: Disk>(
     ensures doing { D.tells disk.old → (variables : List Variable) (st : Stated) → AsksToOpen st.0.what spec.now → IfOk result (λ next. IsDoing D.File.told D.File.bytes variables st
         (core_of (files_of (D.held disk.new)) core.new) next
         (if_numbered (core_of (files_of (D.held disk.old)) core.old) (number_of unit)
-        (λ n. opens (core_of (files_of (D.held disk.old)) core.old) n spec.now (connected_at core.old.units n)))) }
+        (λ n. opens_unit (core_of (files_of (D.held disk.old)) core.old) unit n spec.now (connected_at core.old.units n)))) }
     ensures fault { D.tells disk.old → result ≡ Err Lost.Disk → FailsWhere
         (if_numbered (core_of (files_of (D.held disk.old)) core.old) (number_of unit)
-        (λ n. opens (core_of (files_of (D.held disk.old)) core.old) n spec.now (connected_at core.old.units n)))
+        (λ n. opens_unit (core_of (files_of (D.held disk.old)) core.old) unit n spec.now (connected_at core.old.units n)))
         core.new (D.held disk.new) (D.refusals disk.old) (D.refusals disk.new) }
     ensures stays { D.tells disk.old → OnErr result (AreStill
         (if_numbered (core_of (files_of (D.held disk.old)) core.old) (number_of unit)
-        (λ n. opens (core_of (files_of (D.held disk.old)) core.old) n spec.now (connected_at core.old.units n)))
+        (λ n. opens_unit (core_of (files_of (D.held disk.old)) core.old) unit n spec.now (connected_at core.old.units n)))
         (D.held disk.old) (D.held disk.new)) }
     ensures own { D.tells disk.old → D.refusals disk.old ≤ D.refusals disk.new }
     ensures units { core.new.units ≡ core.old.units }
@@ -290,13 +335,11 @@ pub(crate) fn open<D: Disk>(
         → IfOk result (λ next. HaveNext next core.new.names core.new.units what) }
     ensures vain { HaveFiles core.old.names core.old.units → OnErr result (HaveFiles core.new.names core.new.units) }
 {
-    let UnitRef::Number(number) = unit else {
+    let Some(number) = unit.number() else {
         return Ok(Doing::Finishes(Condition::NOT_CONNECTED));
     };
-    if let Some(unit) = core.units.find(number) {
-        if keeps_name(&unit.name, spec) {
-            return Ok(change(number, unit, spec));
-        }
+    if unit.is_outside() && core.units.find(number).is_none() {
+        return Ok(Doing::Finishes(Condition::BAD_SPECIFIERS));
     }
-    open_other(alloc, number, spec, core, disk)
+    open_numbered(alloc, number, spec, core, disk)
 }

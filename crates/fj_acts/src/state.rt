@@ -14,6 +14,8 @@ pub struct Core {
     pub output: Output,
     /// The next identifier.
     pub next: u32,
+    /// The code of the number that NEWUNIT= gives next.
+    pub new_unit: u32,
     pub tells: Items<Tell>,
     /// The names whose files are out of the disk.
     pub names: Names,

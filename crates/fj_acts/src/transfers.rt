@@ -36,10 +36,9 @@ use crate::places::distinct_places;
 use crate::state::Core;
 use fj_bay::Job;
 use fj_items::{Lost, give_cells, moving, refusal, set_number, undefine, write_star};
-use fj_modes::UnitRef;
 use fj_outside::{FileStore, Sink};
 use fj_pending::{Held, Pendings, Told, runs_held};
-use fj_statement::{Transfer, Variables};
+use fj_statement::{Transfer, UnitRef, Variables};
 use fj_value::{Condition, Tag};
 use std::alloc::{AllocError, Global};
 
@@ -203,7 +202,11 @@ pub(crate) fn read_or_write<F: FileStore, W: Sink>(
                 Err(lost) => Err(lost),
             }
         }
-        UnitRef::Number(number) => transfer_on(alloc, variables, line, t, number, core),
+        UnitRef::Number(number)
+        | UnitRef::Held { place: _, number }
+        | UnitRef::New { place: _, number } => {
+            transfer_on(alloc, variables, line, t, number, core)
+        }
     }
 }
 

@@ -33,7 +33,7 @@ use Rattle.fj_desk.proofs.Apart.{Each, Differs, Apart}
 use Rattle.fj_turns.specs.Laws.{plain_bays}
 use Rattle.fj_turns.specs.Run.{Stage, Start, Waiting, Acting, Awaiting, Run}
 use Rattle.fj_turns.specs.Serving.{over_bays, Shows, run_conduct, first_run, fresh_slots, begins}
-use Rattle.fj_turns.specs.Turns.{waited_now}
+use Rattle.fj_turns.specs.Turns.{begun_for, waited_now}
 use Rattle.fj_turns.proofs.Before.{fares_after}
 use Rattle.fj_turns.proofs.Finishing.{asks_no_more}
 use Rattle.fj_turns.proofs.Slots.{same_some}
@@ -218,7 +218,7 @@ module _ {E J A : Type 0} (m : Meaning E J A Bay Job Answer) (rack : Rack E J A)
 
       at_stage : (st : Stated) (d : Doing) (stage : Stage) → DoesSo m r.core qs stage → ToldOr stage qs → doing_at st stage r ≡ Some d → HoldUnits m rack (core_now d).units
       at_stage st d Start does out e =
-          told_held (core_now d).units (now_seated (slot_names qs) d (subst (Sits (slot_names qs)) (same_some e) (told_sits (slot_names qs) r.variables st (waited_now st r) r.core does))) (told Start (λ at k never. never) out)
+          told_held (core_now d).units (now_seated (slot_names qs) d (subst (Sits (slot_names qs)) (same_some e) (told_sits (slot_names qs) r.variables (begun_for r st) (waited_now (begun_for r st) r) r.core does))) (told Start (λ at k never. never) out)
       at_stage st d Waiting does out e =
           told_held (core_now d).units (now_seated (slot_names qs) d (subst (Sits (slot_names qs)) (same_some e) (told_sits (slot_names qs) r.variables st (waited_now st r) r.core does))) (told Waiting (λ at k never. never) out)
       at_stage st d (Acting next) does out e = told_held (core_now d).units (now_seated (slot_names qs) d (subst (Sits (slot_names qs)) (same_some e) does)) (told (Acting next) (λ at k never. never) out)

@@ -28,7 +28,7 @@ use Rattle.fj_desk.specs.Core.{Core}
 use Rattle.fj_desk.specs.Desks.{Outcome, outcome_on, most_slots}
 use Rattle.fj_desk.specs.Doing.{Doing, finishes, gives, awaits}
 use Rattle.fj_turns.specs.Run.{Stage, Start, Waiting, Acting, Awaiting, Run}
-use Rattle.fj_turns.specs.Turns.{Turn, Pauses, Passes, Stops, unsettled, bump, waited_now, with_core, with_iostat, with_tells, finish_by, turn_act, doing_told, wait_by, start_by, rule_of, turn_start, turn, Asked, goes, by_turn, asked_on, asked, told_of}
+use Rattle.fj_turns.specs.Turns.{Turn, Pauses, Passes, Stops, unsettled, bump, waited_now, with_core, with_iostat, with_tells, finish_by, turn_act, doing_told, wait_by, start_by, rule_of, begun_for, with_hand, turn_start, turn, Asked, goes, by_turn, asked_on, asked, told_of}
 use Rattle.fj_turns.specs.Passing.{passed_by, passed_on, passes}
 use Rattle.fj_turns.specs.Serving.{over_bays, Shows, run_conduct, first_run, fresh_slots, begins}
 use Rattle.fj_turns.proofs.Slots.{and_true, same_some, each_at, each_replicate, get_mapped, map_get, map_set, get_last, length_set, set_found}
@@ -358,7 +358,9 @@ module _ {E J A : Type 0} (m : Meaning E J A Bay Job Answer) where
     all_of stage none out at q k job e f c = elim (out at q k job e f c) [ inl low ↦ low | inr waited ↦ absurd (none at k waited) ]
 
     turn_goes : (st : Stated) (stage : Stage) (r : Run) → Counts r qs → DoesSo r.core qs stage → ToldOr stage qs → TurnGoes qs (turn st stage r)
-    turn_goes st Start r b w out = start_goes st (rule_of r.variables st r.core) r b (all_of Start (λ at k never. never) out) w
+    turn_goes st Start r b w out =
+        let hand = begun_for r st in
+        start_goes hand (rule_of r.variables hand r.core) (with_hand hand r) b (all_of Start (λ at k never. never) out) w
     turn_goes st Waiting r b w out = wait_goes st (waited_now st r) (unsettled (waited_now st r) r.book) r b (all_of Waiting (λ at k never. never) out) w
     turn_goes st (Acting d) r b w out = act_goes st d r b (all_of (Acting d) (λ at k never. never) out) w
     turn_goes st (Awaiting own last onward) r b w out =
@@ -376,7 +378,7 @@ module _ {E J A : Type 0} (m : Meaning E J A Bay Job Answer) where
     goes_so [] r h start = inl (record { counts = h.counts; does = h.does; out = h.out })
     goes_so (st ∷ rest) r h start =
         by (turn_start st (record r { rest = st ∷ rest }))
-        (start_goes st (rule_of r.variables st r.core) (record r { rest = st ∷ rest }) h.counts (start_all r h start) (start_seated r h start))
+        (let hand = begun_for r st in start_goes hand (rule_of r.variables hand r.core) (record r { rest = hand ∷ rest }) h.counts (start_all r h start) (start_seated r h start))
         (λ run. goes_so rest run)
       where
         by : (t : Turn) → TurnGoes qs t → ((run : Run) → Goes run qs → run.stage ≡ Start → let a = goes rest run in AskGoes qs a.ask a.run)

@@ -7,10 +7,10 @@ use Rattle.fj_value.specs.declared.condition.Condition.TheVariants.{Fine, Error}
 use Rattle.fj_modes.specs.declared.modes.Modes.{Modes}
 use Rattle.fj_modes.specs.declared.specifiers.OpenSpec.{OpenSpec}
 use Rattle.fj_modes.specs.declared.asked.Wanted.{Wanted}
-use Rattle.fj_modes.specs.declared.unit.Motion.{Motion}
-use Rattle.fj_modes.specs.declared.unit.Motion.TheVariants as motion
-use Rattle.fj_modes.specs.declared.unit.UnitRef.{UnitRef}
-use Rattle.fj_modes.specs.declared.unit.UnitRef.TheVariants as unit
+use Rattle.fj_modes.specs.declared.motion.Motion.{Motion}
+use Rattle.fj_modes.specs.declared.motion.Motion.TheVariants as motion
+use Rattle.fj_statement.specs.declared.unit.UnitRef.{UnitRef}
+use Rattle.fj_statement.specs.declared.unit.UnitRef.TheVariants as unit
 use Rattle.fj_list.specs.declared.moved.Moved.{Moved}
 use Rattle.fj_control.specs.Steps.{Given}
 use Rattle.fj_connect.specs.Connection.{Connection}
@@ -33,7 +33,7 @@ use Rattle.fj_plain.specs.Transfers.{moved_in}
 use Rattle.fj_desk.specs.Core.{Core, Connected, connected_at, unit_named, without_connected}
 use Rattle.fj_desk.specs.Desks.{Outcome, connection_in, condition_in, outcome_on, most_slots}
 use Rattle.fj_desk.specs.Doing.{Doing, finishes, gives, awaits}
-use Rattle.fj_desk.specs.Acting.{finishes_behind, transferred, transfer_at, keeps, disconnected, came_out, detaches, closes, closes_anyway, all_closed, opens, moves, asks_connection, inquires, if_numbered, unit_at, own, doing}
+use Rattle.fj_desk.specs.Acting.{finishes_behind, transferred, transfer_at, keeps, disconnected, came_out, detaches, closes, closes_anyway, all_closed, opens_unit, moves, asks_connection, inquires, if_numbered, unit_at, own, doing}
 use Rattle.fj_desk.specs.Acting as acting
 use Rattle.fj_desk.specs.Desking.{told_core}
 use Rattle.fj_desk.proofs.Apart.{Each, each_filter, each_map, Differs, Apart}
@@ -119,6 +119,12 @@ module _ (control : ℕ → List Given) (variables : List Variable) (line : ℕ)
   transfer_sits t moved (unit.Number n) =
       unit_by (Sits names) control variables line core t moved (connected_at core.units n) (λ condition. s)
       (λ u e. transferred_sits t moved u (seated_low names core.units u s (own_found core (Some n) u e)))
+  transfer_sits t moved (unit.Held place n) =
+      unit_by (Sits names) control variables line core t moved (connected_at core.units n) (λ condition. s)
+      (λ u e. transferred_sits t moved u (seated_low names core.units u s (own_found core (Some n) u e)))
+  transfer_sits t moved (unit.New place n) =
+      unit_by (Sits names) control variables line core t moved (connected_at core.units n) (λ condition. s)
+      (λ u e. transferred_sits t moved u (seated_low names core.units u s (own_found core (Some n) u e)))
 
 -- ---- CLOSE and END
 
@@ -163,9 +169,9 @@ connects_sits names core number spec modes s lacks =
     let come : Connected = record { number = number; slot = slot; name = c.name; modes = c.modes } in
     (s, low, s.empty slot free.differs, λ new o b is. come_seated names new core.units come c s low free.differs lacks refl b))
 
-open_sits : (names : Table) (core : Core) (spec : OpenSpec) (number : Option ℕ) → Seated names core.units → Sits names (if_numbered core number (λ n. opens core n spec (connected_at core.units n)))
-open_sits names core spec number s =
-    open_by (Sits names) core spec number (λ condition. s)
+open_sits : (names : Table) (core : Core) (ref : UnitRef) (spec : OpenSpec) (number : Option ℕ) → Seated names core.units → Sits names (if_numbered core number (λ n. opens_unit core ref n spec (connected_at core.units n)))
+open_sits names core ref spec number s =
+    open_by (Sits names) core ref spec number (λ condition. s)
     (λ n u modes is e.
     let found = own_found core (Some n) u e in (
       s,
@@ -213,7 +219,7 @@ inquires_sits variables names core number file asked id s = by (unit_at core num
 module _ (control : ℕ → List Given) (variables : List Variable) (line : ℕ) (names : Table) (core : Core) (s : Seated names core.units) where
   own_sits : (st : Statement) → Sits names (own control variables line core st)
   own_sits (statement.Assign to from) = s
-  own_sits (statement.OpenUnit u spec iostat) = open_sits names core spec (number_of u) s
+  own_sits (statement.OpenUnit u spec iostat) = open_sits names core u spec (number_of u) s
   own_sits (statement.CloseUnit u keep iostat) = closes_sits names core keep (number_of u) s
   own_sits (statement.WaitFor u id iostat) = s
   own_sits (statement.Move how u iostat) = moves_sit names core how (number_of u) s

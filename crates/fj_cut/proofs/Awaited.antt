@@ -11,11 +11,11 @@ use Rattle.fj_value.specs.declared.condition.Condition.{Condition}
 use Rattle.fj_value.specs.declared.condition.Condition.TheVariants.{Fine}
 use Rattle.fj_modes.specs.declared.modes.Modes.{Modes}
 use Rattle.fj_modes.specs.declared.specifiers.OpenSpec.{OpenSpec}
-use Rattle.fj_modes.specs.declared.asked.Subject.TheVariants as subject
+use Rattle.fj_statement.specs.declared.unit.Subject.TheVariants as subject
 use Rattle.fj_modes.specs.declared.asked.Wanted.{Wanted}
-use Rattle.fj_modes.specs.declared.unit.Motion.{Motion}
-use Rattle.fj_modes.specs.declared.unit.UnitRef.{UnitRef}
-use Rattle.fj_modes.specs.declared.unit.UnitRef.TheVariants as unit
+use Rattle.fj_modes.specs.declared.motion.Motion.{Motion}
+use Rattle.fj_statement.specs.declared.unit.UnitRef.{UnitRef}
+use Rattle.fj_statement.specs.declared.unit.UnitRef.TheVariants as unit
 use Rattle.fj_list.specs.declared.moved.Moved.{Moved}
 use Rattle.fj_control.specs.Steps.{Given}
 use Rattle.fj_statement.specs.declared.deck.Variable.{Variable}
@@ -36,7 +36,7 @@ use Rattle.fj_desk.specs.Desks.{Desk, Outcome, carry, log_length, entry_of}
 use Rattle.fj_desk.specs.Desks as desks
 use Rattle.fj_desk.specs.Doing.{Doing, finishes, gives, awaits, Desked}
 use Rattle.fj_desk.specs.Desking.{entries, told_core, fresh}
-use Rattle.fj_desk.specs.Acting.{finishes_behind, transferred, transfer_at, keeps, disconnected, came_out, closes, closes_anyway, all_closed, connects, opens, moves, asks_connection, inquires, if_numbered, unit_at, own, doing}
+use Rattle.fj_desk.specs.Acting.{finishes_behind, transferred, transfer_at, keeps, disconnected, came_out, closes, closes_anyway, all_closed, connects, opens_unit, moves, asks_connection, inquires, if_numbered, unit_at, own, doing}
 use Rattle.fj_desk.proofs.Apart.{Each, each_imp, Differs, Apart}
 use Rattle.fj_desk.proofs.Seen.{numbers_apart, named_same}
 use Rattle.fj_desk.proofs.Walking.{unit_by, closes_by, anyway_by, connects_by, open_by, doing_by}
@@ -123,6 +123,10 @@ module _ (what : Statement) (names : Names) (unit_named_by : List ℕ → Option
   transfer_places control variables line core t moved unit.Star named w = tt
   transfer_places control variables line core t moved (unit.Number n) named w =
       unit_by Places control variables line core t moved (connected_at core.units n) (λ condition. tt) (λ u e. transferred_places control variables line core t moved u (λ k. place_of core (Some n) u named (w k) e))
+  transfer_places control variables line core t moved (unit.Held place n) named w =
+      unit_by Places control variables line core t moved (connected_at core.units n) (λ condition. tt) (λ u e. transferred_places control variables line core t moved u (λ k. place_of core (Some n) u named (w k) e))
+  transfer_places control variables line core t moved (unit.New place n) named w =
+      unit_by Places control variables line core t moved (connected_at core.units n) (λ condition. tt) (λ u e. transferred_places control variables line core t moved u (λ k. place_of core (Some n) u named (w k) e))
 
   closes_places : (core : Core) (keep : Option Bool) (number : Option ℕ) → IsNamed core → MayWait number → Places (closes core keep (unit_at core number))
   closes_places core keep number named w =
@@ -148,9 +152,9 @@ module _ (what : Statement) (names : Names) (unit_named_by : List ℕ → Option
   connects_places : (core : Core) (number : ℕ) (spec : OpenSpec) (modes : Modes) → Places (connects number spec modes core)
   connects_places core number spec modes = connects_by Places core number spec modes (λ condition. tt) (λ slot c free e. (inr (none_there core.units slot free.differs), λ o. tt))
 
-  open_places : (core : Core) (number : Option ℕ) (spec : OpenSpec) → IsNamed core → MayWait number → Places (if_numbered core number (λ n. opens core n spec (connected_at core.units n)))
-  open_places core number spec named w =
-      open_by Places core spec number (λ condition. tt) (λ n u modes is e. (place_of core number u named w (ap (unit_at core) is ∙ e), λ o. tt)) (λ n modes is e. connects_places core n spec modes)
+  open_places : (core : Core) (ref : UnitRef) (number : Option ℕ) (spec : OpenSpec) → IsNamed core → MayWait number → Places (if_numbered core number (λ n. opens_unit core ref n spec (connected_at core.units n)))
+  open_places core ref number spec named w =
+      open_by Places core ref spec number (λ condition. tt) (λ n u modes is e. (place_of core number u named w (ap (unit_at core) is ∙ e), λ o. tt)) (λ n modes is e. connects_places core n spec modes)
       (λ n u modes is e other. (place_of core number u named w (ap (unit_at core) is ∙ e), λ o. either (came_out u o) _ _ (λ i. connects_places (disconnected core u (keeps u) o) n spec modes) (λ i. tt)))
 
   moves_places : (core : Core) (how : Motion) (number : Option ℕ) (o : Option Connected) → IsNamed core → MayWait number → unit_at core number ≡ o → Places (moves core how o)
@@ -177,7 +181,7 @@ module _ (control : ℕ → List Given) (variables : List Variable) (line : ℕ)
   own_places : (st : Statement) → In st (own control variables line core st)
   own_places (statement.Assign to from) = tt
   own_places (statement.OpenUnit u spec iostat) =
-      open_places (statement.OpenUnit u spec iostat) (names_of core.units) (unit_named core.units) core (number_of u) spec (λ n. refl) (λ n e. e)
+      open_places (statement.OpenUnit u spec iostat) (names_of core.units) (unit_named core.units) core u (number_of u) spec (λ n. refl) (λ n e. e)
   own_places (statement.CloseUnit u keep iostat) =
       closes_places (statement.CloseUnit u keep iostat) (names_of core.units) (unit_named core.units) core keep (number_of u) (λ n. refl) (λ n e. e)
   own_places (statement.WaitFor u id iostat) = tt

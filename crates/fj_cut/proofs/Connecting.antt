@@ -8,10 +8,10 @@ use Rattle.fj_modes.specs.declared.modes.Modes.{Modes}
 use Rattle.fj_modes.specs.declared.specifiers.OpenSpec.{OpenSpec}
 use Rattle.fj_modes.specs.declared.specifiers.FileStatus.TheVariants.{Unknown}
 use Rattle.fj_modes.specs.declared.asked.Wanted.{Wanted}
-use Rattle.fj_modes.specs.declared.unit.Motion.{Motion}
-use Rattle.fj_modes.specs.declared.unit.Motion.TheVariants as motion
-use Rattle.fj_modes.specs.declared.unit.UnitRef.{UnitRef}
-use Rattle.fj_modes.specs.declared.unit.UnitRef.TheVariants as unit
+use Rattle.fj_modes.specs.declared.motion.Motion.{Motion}
+use Rattle.fj_modes.specs.declared.motion.Motion.TheVariants as motion
+use Rattle.fj_statement.specs.declared.unit.UnitRef.{UnitRef}
+use Rattle.fj_statement.specs.declared.unit.UnitRef.TheVariants as unit
 use Rattle.fj_list.specs.declared.moved.Moved.{Moved}
 use Rattle.fj_control.specs.Steps.{Given}
 use Rattle.fj_connect.specs.Connection.{Connection}
@@ -33,7 +33,7 @@ use Rattle.fj_desk.specs.Desks.{Desk, Outcome, carry, log_length}
 use Rattle.fj_desk.specs.Desks as desks
 use Rattle.fj_desk.specs.Desking.{told_core}
 use Rattle.fj_desk.specs.Doing.{Doing, finishes, gives, awaits}
-use Rattle.fj_desk.specs.Acting.{finishes_behind, transferred, transfer_at, keeps, disconnected, came_out, closes, closes_anyway, all_closed, connects, opens, moves, asks_connection, inquires, if_numbered, unit_at, own, doing}
+use Rattle.fj_desk.specs.Acting.{finishes_behind, transferred, transfer_at, keeps, disconnected, came_out, closes, closes_anyway, all_closed, connects, opens_unit, moves, asks_connection, inquires, if_numbered, unit_at, own, doing}
 use Rattle.fj_desk.proofs.Walking.{either, unit_by, closes_by, anyway_by, connects_by, open_by, doing_by}
 use Rattle.fj_turns.specs.Turns.{halted_slots, ends_halts, doing_told}
 use Rattle.fj_turns.specs.Inside.{walked}
@@ -87,6 +87,10 @@ module _ (Q : List ℕ → Type 0) where
   transfer_connects control variables line core t moved unit.Star = tt
   transfer_connects control variables line core t moved (unit.Number n) =
       unit_by Connects control variables line core t moved (connected_at core.units n) (λ condition. tt) (λ u e. transferred_connects control variables line core t moved u)
+  transfer_connects control variables line core t moved (unit.Held place n) =
+      unit_by Connects control variables line core t moved (connected_at core.units n) (λ condition. tt) (λ u e. transferred_connects control variables line core t moved u)
+  transfer_connects control variables line core t moved (unit.New place n) =
+      unit_by Connects control variables line core t moved (connected_at core.units n) (λ condition. tt) (λ u e. transferred_connects control variables line core t moved u)
 
   -- ---- CLOSE and END
 
@@ -106,10 +110,10 @@ module _ (Q : List ℕ → Type 0) where
   connects_connect core number spec modes q = connects_by Connects core number spec modes (λ condition. tt)
       (λ slot c free e. (subst Q (sym (named_due modes (file_due spec number) (bytes_opened (unwrap_or spec.status Unknown) (core.files (file_due spec number))) c e)) q, λ o. tt))
 
-  open_connects : (core : Core) (number : Option ℕ) (spec : OpenSpec) → ((name : List ℕ) → option_and_then (λ n. opens_on (names_of core.units n) spec n) number ≡ Some name → Q name)
-      → Connects (if_numbered core number (λ n. opens core n spec (connected_at core.units n)))
-  open_connects core number spec h =
-      open_by Connects core spec number (λ condition. tt) (λ n u modes is e. (tt, λ o. tt)) (λ n modes is e. connects_connect core n spec modes (h (file_due spec n) (opens_new core.units number spec n is e)))
+  open_connects : (core : Core) (ref : UnitRef) (number : Option ℕ) (spec : OpenSpec) → ((name : List ℕ) → option_and_then (λ n. opens_on (names_of core.units n) spec n) number ≡ Some name → Q name)
+      → Connects (if_numbered core number (λ n. opens_unit core ref n spec (connected_at core.units n)))
+  open_connects core ref number spec h =
+      open_by Connects core ref spec number (λ condition. tt) (λ n u modes is e. (tt, λ o. tt)) (λ n modes is e. connects_connect core n spec modes (h (file_due spec n) (opens_new core.units number spec n is e)))
       (λ n u modes is e other. (tt, λ o. either Connects (came_out u o) _ _ (connects_connect (disconnected core u (keeps u) o) n spec modes (h (file_due spec n) (opens_other core.units number spec n u is e other))) tt))
 
   -- ---- the motions, INQUIRE
@@ -130,7 +134,7 @@ module _ (Q : List ℕ → Type 0) where
   module _ (control : ℕ → List Given) (variables : List Variable) (line : ℕ) (core : Core) where
     own_connects : (st : Statement) → ((name : List ℕ) → file_opened (names_of core.units) st ≡ Some name → Q name) → Connects (own control variables line core st)
     own_connects (statement.Assign to from) h = tt
-    own_connects (statement.OpenUnit u spec iostat) h = open_connects core (number_of u) spec h
+    own_connects (statement.OpenUnit u spec iostat) h = open_connects core u (number_of u) spec h
     own_connects (statement.CloseUnit u keep iostat) h = closes_connect core keep (unit_at core (number_of u))
     own_connects (statement.WaitFor u id iostat) h = tt
     own_connects (statement.Move how u iostat) h = moves_connect core how (unit_at core (number_of u))

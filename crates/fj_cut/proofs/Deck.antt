@@ -13,7 +13,7 @@ use Rattle.fj_statement.specs.declared.deck.Variable.{Variable}
 use Rattle.fj_bay.specs.Jobs.{Job}
 use Rattle.fj_plain.specs.State.{State, Files, start}
 use Rattle.fj_plain.specs.State as plain
-use Rattle.fj_plain.specs.Statement.{Stated, Ran, Ending, executed, cut}
+use Rattle.fj_plain.specs.Statement.{begun_in, Stated, Ran, Ending, executed, cut}
 use Rattle.fj_plain.specs.CutLaws.{next_at}
 use Rattle.fj_plain.specs.UnitLaws.{OneUnit}
 use Rattle.fj_plain.proofs.Cutting.{cut_is}
@@ -130,7 +130,7 @@ next_state : (ran : Ran) (o : Option Stated) (st : Stated) (state : State) → n
 next_state ran None st state e = cc
 next_state ran (Some x) st state e = by ran.ending e
   where
-    by : (o : Option Ending) → (elim o as (λ _. Option (Stated × State)) [ None ↦ Some (x, ran.state) | Some y ↦ None ]) ≡ Some (st, state) → ran.state ≡ state
+    by : (o : Option Ending) → (elim o as (λ _. Option (Stated × State)) [ None ↦ Some (begun_in ran.state x, ran.state) | Some y ↦ None ]) ≡ Some (st, state) → ran.state ≡ state
     by None e = ap (λ (o : Option (Stated × State)). elim o as (λ _. State) [ None ↦ ran.state | Some y ↦ y.1 ]) e
     by (Some y) e = cc
 

@@ -10,10 +10,10 @@ use Rattle.fj_modes.specs.declared.modes.Modes.{Modes}
 use Rattle.fj_modes.specs.declared.specifiers.OpenSpec.{OpenSpec}
 use Rattle.fj_modes.specs.declared.specifiers.FileStatus.TheVariants.{Unknown}
 use Rattle.fj_modes.specs.declared.asked.Wanted.{Wanted}
-use Rattle.fj_modes.specs.declared.unit.Motion.{Motion}
-use Rattle.fj_modes.specs.declared.unit.Motion.TheVariants as motion
-use Rattle.fj_modes.specs.declared.unit.UnitRef.{UnitRef}
-use Rattle.fj_modes.specs.declared.unit.UnitRef.TheVariants as unit
+use Rattle.fj_modes.specs.declared.motion.Motion.{Motion}
+use Rattle.fj_modes.specs.declared.motion.Motion.TheVariants as motion
+use Rattle.fj_statement.specs.declared.unit.UnitRef.{UnitRef}
+use Rattle.fj_statement.specs.declared.unit.UnitRef.TheVariants as unit
 use Rattle.fj_list.specs.declared.moved.Moved.{Moved}
 use Rattle.fj_control.specs.Steps.{Given}
 use Rattle.fj_connect.specs.Connection.{Connection}
@@ -37,7 +37,7 @@ use Rattle.fj_desk.specs.Desks.{Desk, carry, log_length, most_slots}
 use Rattle.fj_desk.specs.Desks as desks
 use Rattle.fj_desk.specs.Desking.{connection_at, all_left, told_core}
 use Rattle.fj_desk.specs.Doing.{Doing, finishes, gives, awaits}
-use Rattle.fj_desk.specs.Acting.{finishes_behind, transferred, transfer_at, keeps, disconnected, detaches, closes, closes_anyway, all_closed, changes, attaches, connects, opens, job_of, moves, asks_connection, inquires, if_numbered, unit_at, own, doing}
+use Rattle.fj_desk.specs.Acting.{finishes_behind, transferred, transfer_at, keeps, disconnected, detaches, closes, closes_anyway, all_closed, changes, attaches, connects, opens_unit, job_of, moves, asks_connection, inquires, if_numbered, unit_at, own, doing}
 use Rattle.fj_desk.proofs.Apart.{Each, each_append, each_both, each_filter, each_imp, each_map, Differs, Apart}
 use Rattle.fj_desk.proofs.Carrying.{carry_other, carry_later}
 use Rattle.fj_desk.proofs.Opening.{gone_differs}
@@ -127,6 +127,12 @@ module _ (name : List ℕ) (due : Option (List ℕ)) (NotOpened NotAbout : Type 
       → (NotAbout → option_and_then (names_of core.units) (number_of to) ≢ Some name) → Stays ds (transfer_at control variables line core t moved to)
   transfer_stays control variables line ds core t moved unit.Star r h = ready_point ds core r
   transfer_stays control variables line ds core t moved (unit.Number n) r h =
+      unit_by (Stays ds) control variables line core t moved (connected_at core.units n) (λ condition. ready_point ds core r)
+      (λ u e. transferred_stays control variables line ds core t moved u r (own_number core.units n u e) (other_file core.units n u e h))
+  transfer_stays control variables line ds core t moved (unit.Held place n) r h =
+      unit_by (Stays ds) control variables line core t moved (connected_at core.units n) (λ condition. ready_point ds core r)
+      (λ u e. transferred_stays control variables line ds core t moved u r (own_number core.units n u e) (other_file core.units n u e h))
+  transfer_stays control variables line ds core t moved (unit.New place n) r h =
       unit_by (Stays ds) control variables line core t moved (connected_at core.units n) (λ condition. ready_point ds core r)
       (λ u e. transferred_stays control variables line ds core t moved u r (own_number core.units n u e) (other_file core.units n u e h))
 
@@ -291,11 +297,11 @@ module _ (name : List ℕ) (due : Option (List ℕ)) (NotOpened NotAbout : Type 
       let inside : slot < most_slots = omega (arith, free.inside) in
       attach_stays ds core number slot c r inside free.differs lacks (λ a. subst (Other name) (sym named) (opened a)) (λ b. subst (Other name) (sym named) (about b)))
 
-  open_stays : (ds : List Desk) (core : Core) (number : Option ℕ) (spec : OpenSpec) → Ready ds core
+  open_stays : (ds : List Desk) (core : Core) (ref : UnitRef) (number : Option ℕ) (spec : OpenSpec) → Ready ds core
       → (NotOpened → option_and_then (λ n. opens_on (names_of core.units n) spec n) number ≢ Some name) → (NotAbout → option_and_then (λ n. opens_on (names_of core.units n) spec n) number ≢ Some name)
-      → Stays ds (if_numbered core number (λ n. opens core n spec (connected_at core.units n)))
-  open_stays ds core number spec r opened about =
-      open_by (Stays ds) core spec number (λ condition. ready_point ds core r)
+      → Stays ds (if_numbered core number (λ n. opens_unit core ref n spec (connected_at core.units n)))
+  open_stays ds core ref number spec r opened about =
+      open_by (Stays ds) core ref spec number (λ condition. ready_point ds core r)
       (λ n u modes is e. changes_stay ds core u modes r (own_number core.units n u e))
       (λ n modes is e. let due = opens_new core.units number spec n is e in
       connects_stay ds core n spec modes r (none_at core.units n e) (λ a. not_due n (opened a) due) (λ b. not_due n (about b) due))
@@ -362,7 +368,7 @@ module _ (name : List ℕ) (due : Option (List ℕ)) (NotOpened NotAbout : Type 
   module _ (control : ℕ → List Given) (variables : List Variable) (line : ℕ) (ds : List Desk) (core : Core) (r : Ready ds core) where
     own_stays : (st : Statement) → (NotOpened → file_opened (names_of core.units) st ≢ Some name) → (NotAbout → file_about (names_of core.units) st ≢ Some name) → Stays ds (own control variables line core st)
     own_stays (statement.Assign to from) opened about = ready_point ds core r
-    own_stays (statement.OpenUnit u spec iostat) opened about = open_stays ds core (number_of u) spec r opened about
+    own_stays (statement.OpenUnit u spec iostat) opened about = open_stays ds core u (number_of u) spec r opened about
     own_stays (statement.CloseUnit u keep iostat) opened about = close_at ds core keep (number_of u) r (deletes_about (names_of core.units) u keep iostat about)
     own_stays (statement.WaitFor u id iostat) opened about = ready_point ds core r
     own_stays (statement.Move how u iostat) opened about = moves_at ds core how (number_of u) r (endfile_about (names_of core.units) how u iostat about)

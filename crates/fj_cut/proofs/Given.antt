@@ -19,7 +19,7 @@ use Rattle.fj_plain.specs.Statement.{Stated, Ending}
 use Rattle.fj_desk.specs.Core.{Core}
 use Rattle.fj_desk.specs.Desks.{Desk, carry, outcome, log_length, most_slots}
 use Rattle.fj_desk.specs.Doing.{Doing, finishes, gives, awaits, Desked, given}
-use Rattle.fj_desk.specs.Desking.{DesksRan, over_desks, goes_on, desk_step, fresh}
+use Rattle.fj_desk.specs.Desking.{begun_at, DesksRan, over_desks, goes_on, desk_step, fresh}
 use Rattle.fj_desk.specs.Giving.{carry_all}
 use Rattle.fj_turns.specs.Run.{Run}
 use Rattle.fj_turns.specs.Turns.{rule_of}
@@ -34,7 +34,7 @@ use Rattle.fj_turns.proofs.Before.{Fares, over_at, fares_after, each_awaited, co
 use Rattle.fj_turns.proofs.Cutting.{step_given, walked_given, own_given, each_entry}
 use Rattle.fj_turns.proofs.Decks.{runner_is_plain}
 use Rattle.fj_turns.proofs.Finishing.{one_end}
-use Rattle.fj_turns.proofs.Passed.{Over, passes_none, At, passes_stand, stands_at, counts_at}
+use Rattle.fj_turns.proofs.Passed.{long_at, Over, passes_none, At, passes_stand, stands_at, counts_at}
 use Rattle.fj_turns.proofs.Slots.{map_get, get_mapped, same_some}
 use Rattle.fj_turns.proofs.Statements.{step_is}
 use Rattle.fj_cut.specs.Stopping.{GivesTo, WereGiven, EachStopGiven, EachTurnGiven, EachEndGiven, StopsAreGiven, TurnsAreGiven, EndsAreGiven}
@@ -52,18 +52,18 @@ left_of_deck (suc k) (x ∷ xs) = left_of_deck k xs ∙ omega arith
 pub within_deck : (variables : List Variable) (index : ℕ) (deck : List Stated) (p : Desked) (x : Stated × Desked) → cut_desks variables index deck p ≡ Some x → index < length deck
 within_deck variables index [] p x e = cc
 within_deck variables zero (st ∷ more) p x e = omega arith
-within_deck variables (suc index) (st ∷ more) p x e = by (λ f. within_deck variables index more (desk_step variables st p).0 x f) (desk_step variables st p).1 e
+within_deck variables (suc index) (st ∷ more) p x e = by (λ f. within_deck variables index more (desk_step variables (begun_at p st) p).0 x f) (desk_step variables (begun_at p st) p).1 e
   where
-    by : (cut_desks variables index more (desk_step variables st p).0 ≡ Some x → index < length more) → (o : Option Ending)
-        → elim o as (λ _. Option (Stated × Desked)) [ None ↦ cut_desks variables index more (desk_step variables st p).0 | Some ending ↦ None ] ≡ Some x → suc index < length (st ∷ more)
+    by : (cut_desks variables index more (desk_step variables (begun_at p st) p).0 ≡ Some x → index < length more) → (o : Option Ending)
+        → elim o as (λ _. Option (Stated × Desked)) [ None ↦ cut_desks variables index more (desk_step variables (begun_at p st) p).0 | Some ending ↦ None ] ≡ Some x → suc index < length (st ∷ more)
     by later None e = let k = later e in omega (arith, k)
     by later (Some ending) e = let z : None ≡ Some x = e in cc
 
 -- where no more are left it is no earlier
-not_earlier : (deck a b : List Stated) (i j : ℕ) → a ≡ drop i deck → b ≡ drop j deck → i < length deck → j < length deck → length b ≤ length a → i ≤ j
+not_earlier : (deck a b : List Stated) (i j : ℕ) → length a ≡ length (drop i deck) → length b ≡ length (drop j deck) → i < length deck → j < length deck → length b ≤ length a → i ≤ j
 not_earlier deck a b i j p q low high less =
-    let x = ap length p ∙ left_of_deck i deck in
-    let y = ap length q ∙ left_of_deck j deck in
+    let x = p ∙ left_of_deck i deck in
+    let y = q ∙ left_of_deck j deck in
     omega (arith, x, y, low, high, less)
 
 -- ---- the next job of a statement
@@ -88,26 +88,29 @@ ends_over : (variables : List Variable) (index : ℕ) (deck : List Stated) (p : 
     → (over_desks variables deck p).desked ≡ (desk_step variables st before).0
 ends_over variables index [] p st before e some = cc
 ends_over variables zero (x ∷ deck) p st before e some =
-    ap (λ z. (over_desks variables (z.0 ∷ deck) z.1).desked) same ∙ here (desk_step variables st before).1 refl some
+    ap (λ (z : Stated × Desked). (elim (desk_step variables z.0 z.1).1 as (λ _. DesksRan) [ None ↦ over_desks variables deck (desk_step variables z.0 z.1).0 | Some y ↦ record { desked = (desk_step variables z.0 z.1).0; ending = Some y } ]).desked) same
+    ∙ here (desk_step variables st before).1 refl some
   where
-    same : ◌≡◌ {A = Stated × Desked} (x, p) (st, before)
+    same : ◌≡◌ {A = Stated × Desked} (begun_at p x, p) (st, before)
     same = same_some e
 
-    here : (o : Option Ending) → (desk_step variables st before).1 ≡ o → IsSome o → (over_desks variables (st ∷ deck) before).desked ≡ (desk_step variables st before).0
+    here : (o : Option Ending) → (desk_step variables st before).1 ≡ o → IsSome o
+        → (elim (desk_step variables st before).1 as (λ _. DesksRan) [ None ↦ over_desks variables deck (desk_step variables st before).0 | Some y ↦ record { desked = (desk_step variables st before).0; ending = Some y } ]).desked
+        ≡ (desk_step variables st before).0
     here None f none = cc
     here (Some ending) f none =
         ap (λ o. (elim o as (λ _. DesksRan) [ None ↦ over_desks variables deck (desk_step variables st before).0 | Some y ↦ record { desked = (desk_step variables st before).0; ending = Some y } ]).desked) f
 ends_over variables (suc index) (x ∷ deck) p st before e some =
-    by (desk_step variables x p).1 refl (λ f. ends_over variables index deck (desk_step variables x p).0 st before f some)
+    by (desk_step variables (begun_at p x) p).1 refl (λ f. ends_over variables index deck (desk_step variables (begun_at p x) p).0 st before f some)
   where
-    by : (o : Option Ending) → (desk_step variables x p).1 ≡ o
-        → (cut_desks variables index deck (desk_step variables x p).0 ≡ Some (st, before) → (over_desks variables deck (desk_step variables x p).0).desked ≡ (desk_step variables st before).0)
+    by : (o : Option Ending) → (desk_step variables (begun_at p x) p).1 ≡ o
+        → (cut_desks variables index deck (desk_step variables (begun_at p x) p).0 ≡ Some (st, before) → (over_desks variables deck (desk_step variables (begun_at p x) p).0).desked ≡ (desk_step variables st before).0)
         → (over_desks variables (x ∷ deck) p).desked ≡ (desk_step variables st before).0
     by None f later =
-        ap (λ o. (elim o as (λ _. DesksRan) [ None ↦ over_desks variables deck (desk_step variables x p).0 | Some y ↦ record { desked = (desk_step variables x p).0; ending = Some y } ]).desked) f
-        ∙ later (sym (ap (λ o. elim o as (λ _. Option (Stated × Desked)) [ None ↦ cut_desks variables index deck (desk_step variables x p).0 | Some y ↦ None ]) f) ∙ e)
+        ap (λ o. (elim o as (λ _. DesksRan) [ None ↦ over_desks variables deck (desk_step variables (begun_at p x) p).0 | Some y ↦ record { desked = (desk_step variables (begun_at p x) p).0; ending = Some y } ]).desked) f
+        ∙ later (sym (ap (λ o. elim o as (λ _. Option (Stated × Desked)) [ None ↦ cut_desks variables index deck (desk_step variables (begun_at p x) p).0 | Some y ↦ None ]) f) ∙ e)
     by (Some ending) f later =
-        absurd (let z : None ≡ Some (st, before) = sym (ap (λ o. elim o as (λ _. Option (Stated × Desked)) [ None ↦ cut_desks variables index deck (desk_step variables x p).0 | Some y ↦ None ]) f) ∙ e in cc)
+        absurd (let z : None ≡ Some (st, before) = sym (ap (λ o. elim o as (λ _. Option (Stated × Desked)) [ None ↦ cut_desks variables index deck (desk_step variables (begun_at p x) p).0 | Some y ↦ None ]) f) ∙ e in cc)
 
 -- all jobs that a statement gives, or none where it is prohibited
 step_jobs : (variables : List Variable) (st : Stated) (before : Desked) → (k : ℕ) × ((desk_step variables st before).0.desks ≡ carry_all before.desks (take k (jobs_of variables st before)))
@@ -135,14 +138,14 @@ module _ {E J A S : Type 0} (m : Meaning E J A Bay Job Answer) (s : Shows S) (va
     statement : Stated
     before : Desked
     reached : cut_desks variables index deck (fresh variables files) ≡ Some (statement, before)
-    place : rest ≡ drop index deck
+    place : length rest ≡ length (drop index deck)
     jobs : ℕ
     desks : desks_of m slots ≡ carry_all before.desks (take jobs (jobs_of variables statement before))
 
   desk_bay : (q : PlainSlot Bay Job) (start : Bay) (front : List Job) → q.start ≡ start → q.jobs ≡ front → (desk_of m q).bay ≡ behind start front
   desk_bay q start front from are = behind_is (over_bays m) refl q.start q.jobs ∙ ap (λ b. behind b q.jobs) from ∙ ap (behind start) are
 
-  by_entry : (n at : ℕ) (start : Bay) (front : List Job) (job : Job) (last : ℕ) (rest : List Stated) → rest ≡ drop last deck → last < length deck
+  by_entry : (n at : ℕ) (start : Bay) (front : List Job) (job : Job) (last : ℕ) (rest : List Stated) → length rest ≡ length (drop last deck) → last < length deck
       → ((e : ℕ) → e < n → length rest ≤ length (there e).script.rest) → (w : Submitted (over_bays m) c first n at start front job)
       → ((there w.entry).hand ≡ Finished) ⊎ StandsIn m s variables deck (fresh variables files) (there w.entry) → GivesTo variables deck files last at (length front) (behind start front) job
   by_entry n at start front job last rest place low less w (inl over) = absurd (let z : Submit at job ≡ Finished = sym w.hand ∙ over in cc)
@@ -299,7 +302,7 @@ module _ {E J A S : Type 0} (m : Meaning E J A Bay Job Answer) (s : Shows S) (va
             | inl left ↦ inl left
             | inr z ↦ inr (were_given n run b.1 (sym (ap (λ (x : Plain Bay c). x.slots) e))
                 (λ k h. let a = passes_fewer count b.0 run p in let d = before_fewer n k h in let f = ap (λ (x : Run × List (PlainSlot Bay Job)). length x.0.rest) is in omega (arith, a, d, f))
-                (turn_stage run b.1 z) (record { index = z.index; statement = z.statement; before = z.before; reached = z.reached; rest = z.place; told = z.earlier }) (counts_at m variables deck (fresh variables files) run b.1 z))
+                (turn_stage run b.1 z) (record { index = z.index; statement = z.statement; before = z.before; reached = z.reached; rest = long_at m variables deck (fresh variables files) run b.1 z; told = z.earlier }) (counts_at m variables deck (fresh variables files) run b.1 z))
           ]
       by b is (inr (h, over, inl (left, f))) none p = inl (passes_none count b.0 run left p)
       by b is (inr (h, over, inr ended)) none p = absurd (let z : true ≡ false = sym ended.some ∙ ap is_some none in cc)

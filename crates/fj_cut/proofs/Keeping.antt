@@ -5,10 +5,10 @@ use Rattle.std.specs.Str.{bytes_eq}
 use Rattle.std.proofs.lemmas.Slice.Eq.{bytes_eq-Decides}
 use Rattle.fj_value.specs.declared.condition.Condition.{Condition}
 use Rattle.fj_value.specs.declared.condition.Condition.TheVariants.{Fine, EndOfFile, EndOfRecord, Error}
-use Rattle.fj_modes.specs.declared.unit.Motion.{Motion}
-use Rattle.fj_modes.specs.declared.unit.Motion.TheVariants as motion
-use Rattle.fj_modes.specs.declared.unit.UnitRef.{UnitRef}
-use Rattle.fj_modes.specs.declared.unit.UnitRef.TheVariants as unit
+use Rattle.fj_modes.specs.declared.motion.Motion.{Motion}
+use Rattle.fj_modes.specs.declared.motion.Motion.TheVariants as motion
+use Rattle.fj_statement.specs.declared.unit.UnitRef.{UnitRef}
+use Rattle.fj_statement.specs.declared.unit.UnitRef.TheVariants as unit
 use Rattle.fj_list.specs.declared.moved.Moved.{Moved}
 use Rattle.fj_control.specs.Steps.{Given}
 use Rattle.fj_statement.specs.declared.deck.Variable.{Variable}
@@ -58,6 +58,8 @@ module _ (us : List Connected) where
     transfer_stays : (t : Transfer) (moved : Moved) (ref : UnitRef) → Stays us (transfer_at control variables line core t moved ref)
     transfer_stays t moved unit.Star = e
     transfer_stays t moved (unit.Number n) = unit_by (Stays us) control variables line core t moved (connected_at core.units n) (λ condition. e) (λ u is. transferred_stays t moved u)
+    transfer_stays t moved (unit.Held place n) = unit_by (Stays us) control variables line core t moved (connected_at core.units n) (λ condition. e) (λ u is. transferred_stays t moved u)
+    transfer_stays t moved (unit.New place n) = unit_by (Stays us) control variables line core t moved (connected_at core.units n) (λ condition. e) (λ u is. transferred_stays t moved u)
 
     moves_stays : (how : Motion) (o : Option Connected) → Stays us (moves core how o)
     moves_stays how None = e

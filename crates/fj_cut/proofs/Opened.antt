@@ -6,7 +6,7 @@ use Rattle.fj_value.specs.declared.condition.Condition.{Condition}
 use Rattle.fj_value.specs.declared.condition.Condition.TheVariants.{Fine, EndOfFile, EndOfRecord, Error}
 use Rattle.fj_modes.specs.declared.modes.Modes.{Modes}
 use Rattle.fj_modes.specs.declared.specifiers.OpenSpec.{OpenSpec}
-use Rattle.fj_modes.specs.declared.unit.UnitRef.{UnitRef}
+use Rattle.fj_statement.specs.declared.unit.UnitRef.{UnitRef}
 use Rattle.fj_value.specs.declared.place.Place.{Place}
 use Rattle.fj_control.specs.Steps.{Given}
 use Rattle.fj_statement.specs.declared.deck.Variable.{Variable}
@@ -21,7 +21,7 @@ use Rattle.fj_desk.specs.Desks.{Outcome, log_length}
 use Rattle.fj_desk.specs.Desks as desks
 use Rattle.fj_desk.specs.Desking.{told_core}
 use Rattle.fj_desk.specs.Doing.{Doing, finishes, gives, awaits, Desked}
-use Rattle.fj_desk.specs.Acting.{keeps, disconnected, came_out, connects, opens, if_numbered, doing}
+use Rattle.fj_desk.specs.Acting.{keeps, disconnected, came_out, connects, opens_unit, if_numbered, doing}
 use Rattle.fj_desk.proofs.Walking.{either, connects_by, open_by}
 use Rattle.fj_turns.specs.Inside.{waited_at, does, walked}
 use Rattle.fj_turns.specs.Standing.{GivesNext}
@@ -45,9 +45,9 @@ module _ (file : Option (List ℕ)) (u : UnitRef) (spec : OpenSpec) (iostat : Op
   connects_opens : (core : Core) (n : ℕ) (modes : Modes) → file_opened (names_of core.units) this ≡ file → Opens this file (connects n spec modes core)
   connects_opens core n modes e = connects_by (Opens this file) core n spec modes (λ condition. tt) (λ slot c free is. (e, λ o. tt))
 
-  open_opens : (core : Core) → file_opened (names_of core.units) this ≡ file → Opens this file (if_numbered core (number_of u) (λ n. opens core n spec (connected_at core.units n)))
+  open_opens : (core : Core) → file_opened (names_of core.units) this ≡ file → Opens this file (if_numbered core (number_of u) (λ n. opens_unit core u n spec (connected_at core.units n)))
   open_opens core e =
-      open_by (Opens this file) core spec (number_of u) (λ condition. tt) (λ n old modes is at. (e, λ o. tt)) (λ n modes is at. connects_opens core n modes e)
+      open_by (Opens this file) core u spec (number_of u) (λ condition. tt) (λ n old modes is at. (e, λ o. tt)) (λ n modes is at. connects_opens core n modes e)
       (λ n old modes is at other. (
         e,
         λ o. either (Opens this file) (came_out old o) _ _ (connects_opens (disconnected core old (keeps old) o) n modes

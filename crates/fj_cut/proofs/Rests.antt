@@ -1,5 +1,5 @@
 -- The statements that are left: no ask and no answer makes them more.
-use Rattle.std.proofs.Common.{◌≡◌, ℕ, zero, suc, ◌+◌, ◌-◌, ◌≤◌, Bool, true, false, List, [], ◌∷◌, length, Option, Some, None, is_some, slice_get, refl, sym, ap, ◌∙◌, subst, arith}
+use Rattle.std.proofs.Common.{◌≡◌, ℕ, zero, suc, ◌+◌, ◌-◌, ◌≤◌, Bool, true, false, List, [], ◌∷◌, length, Option, Some, None, is_some, slice_get, refl, sym, ap, ◌∙◌, subst, arith, drop}
 use Rattle.std.specs.Prelude.{option_and_then, if◌then◌else◌}
 use Rattle.fj_value.specs.declared.condition.Rule.{Rule}
 use Rattle.fj_slot.specs.Serving.{Meaning}
@@ -14,39 +14,41 @@ use Rattle.fj_bay.specs.Jobs.{Job, Answer}
 use Rattle.fj_plain.specs.Statement.{Stated, Ending, ends}
 use Rattle.fj_desk.specs.Doing.{Doing, finishes, gives, awaits}
 use Rattle.fj_turns.specs.Run.{Run, Stage, Start, Waiting, Acting, Awaiting}
-use Rattle.fj_turns.specs.Turns.{Turn, Pauses, Passes, Stops, Asked, finish_by, turn_act, with_core, with_iostat, doing_told, with_tells, wait_by, waited_now, unsettled, start_by, rule_of, turn, turn_start, goes, by_turn, asked_on, asked}
+use Rattle.fj_turns.specs.Turns.{Turn, Pauses, Passes, Stops, Asked, finish_by, turn_act, with_core, with_iostat, doing_told, with_tells, wait_by, waited_now, unsettled, start_by, rule_of, begun_for, with_hand, turn, turn_start, goes, by_turn, asked_on, asked}
 use Rattle.fj_turns.specs.Passing.{passed_by, passed_on, passes}
 use Rattle.fj_turns.specs.Serving.{over_bays, Shows, run_conduct}
 
--- a turn keeps them
-abbrev KeepsRest : Run → Turn → Type 0
-KeepsRest r (Pauses ask run) = run.rest ≡ r.rest
-KeepsRest r (Passes run) = run.rest ≡ r.rest
-KeepsRest r (Stops run) = run.rest ≡ r.rest
+-- a turn keeps so many
+abbrev KeepsRest : ℕ → Turn → Type 0
+KeepsRest n (Pauses ask run) = length run.rest ≡ n
+KeepsRest n (Passes run) = length run.rest ≡ n
+KeepsRest n (Stops run) = length run.rest ≡ n
 
 module _ (st : Stated) where
-  finish_keeps : (o : Option Ending) (r was : Run) → r.rest ≡ was.rest → KeepsRest was (finish_by o r)
-  finish_keeps None r was e = e
-  finish_keeps (Some ending) r was e = e
+  finish_keeps : (o : Option Ending) (r : Run) → KeepsRest (length r.rest) (finish_by o r)
+  finish_keeps None r = refl
+  finish_keeps (Some ending) r = refl
 
-  act_keeps : (d : Doing) (r was : Run) → r.rest ≡ was.rest → KeepsRest was (turn_act st d r)
-  act_keeps (finishes core condition) r was e = finish_keeps (ends st.0.line st.0.what condition) (with_core (with_iostat st condition r core) r) was e
-  act_keeps (gives slot job core next) r was e = e
-  act_keeps (awaits slot job core next) r was e = e
+  act_keeps : (d : Doing) (r : Run) → KeepsRest (length r.rest) (turn_act st d r)
+  act_keeps (finishes core condition) r = finish_keeps (ends st.0.line st.0.what condition) (with_core (with_iostat st condition r core) r)
+  act_keeps (gives slot job core next) r = refl
+  act_keeps (awaits slot job core next) r = refl
 
-  wait_keeps : (o : Option ℕ) (r : Run) → KeepsRest r (wait_by st (waited_now st r) o r)
-  wait_keeps None r = act_keeps (doing_told r.variables st (waited_now st r) r.core) (with_tells st (waited_now st r) r) r refl
+  wait_keeps : (o : Option ℕ) (r : Run) → KeepsRest (length r.rest) (wait_by st (waited_now st r) o r)
+  wait_keeps None r = act_keeps (doing_told r.variables st (waited_now st r) r.core) (with_tells st (waited_now st r) r)
   wait_keeps (Some slot) r = refl
 
-  start_keeps : (o : Option Rule) (r : Run) → KeepsRest r (start_by st o r)
+  start_keeps : (o : Option Rule) (r : Run) → KeepsRest (length r.rest) (start_by st o r)
   start_keeps (Some rule) r = refl
   start_keeps None r = wait_keeps (unsettled (waited_now st r) r.book) r
 
-  turn_keeps : (stage : Stage) (r : Run) → KeepsRest r (turn st stage r)
-  turn_keeps Start r = start_keeps (rule_of r.variables st r.core) r
-  turn_keeps Waiting r = wait_keeps (unsettled (waited_now st r) r.book) r
-  turn_keeps (Acting does) r = act_keeps does r r refl
-  turn_keeps (Awaiting slot number next) r = refl
+turn_keeps : (st : Stated) (rest : List Stated) (stage : Stage) (r : Run) → r.rest ≡ st ∷ rest → KeepsRest (suc (length rest)) (turn st stage r)
+turn_keeps st rest Start r e =
+    let x : Stated = begun_for r st in
+    subst (λ l. KeepsRest (suc (length (drop 1 l))) (turn_start st r)) e (start_keeps x (rule_of r.variables x r.core) (with_hand x r))
+turn_keeps st rest Waiting r e = subst (λ l. KeepsRest (length l) (turn st Waiting r)) e (wait_keeps st (unsettled (waited_now st r) r.book) r)
+turn_keeps st rest (Acting does) r e = subst (λ l. KeepsRest (length l) (turn st (Acting does) r)) e (act_keeps st does r)
+turn_keeps st rest (Awaiting slot number next) r e = ap length e
 
 -- ---- an ask
 
@@ -55,22 +57,22 @@ fewer_of x y e = let same = ap length e in omega (arith, same)
 
 goes_fewer : (sts : List Stated) (r : Run) → length (goes sts r).run.rest ≤ length sts
 goes_fewer [] r = omega arith
-goes_fewer (st ∷ rest) r = by (λ run. goes_fewer rest run) (turn_start st (record r { rest = st ∷ rest })) (turn_keeps st Start (record r { rest = st ∷ rest }))
+goes_fewer (st ∷ rest) r = by (λ run. goes_fewer rest run) (turn_start st (record r { rest = st ∷ rest })) (turn_keeps st rest Start (record r { rest = st ∷ rest }) refl)
   where
-    by : ((run : Run) → length (goes rest run).run.rest ≤ length rest) → (t : Turn) → KeepsRest (record r { rest = st ∷ rest }) t
+    by : ((run : Run) → length (goes rest run).run.rest ≤ length rest) → (t : Turn) → KeepsRest (suc (length rest)) t
         → let a = elim t as (λ _. Asked) [ Pauses ask run ↦ record { ask = ask; run = run } | Passes run ↦ goes rest run | Stops run ↦ record { ask = Finished; run = run } ] in length a.run.rest ≤ suc (length rest)
-    by later (Pauses ask run) k = fewer_of run.rest (st ∷ rest) k
+    by later (Pauses ask run) k = omega (arith, k)
     by later (Passes run) k = let h = later run in omega (arith, h)
-    by later (Stops run) k = fewer_of run.rest (st ∷ rest) k
+    by later (Stops run) k = omega (arith, k)
 
-turn_fewer : (st : Stated) (rest : List Stated) (r : Run) (t : Turn) → r.rest ≡ st ∷ rest → KeepsRest r t → length (by_turn rest t).run.rest ≤ suc (length rest)
-turn_fewer st rest r (Pauses ask run) e k = fewer_of run.rest (st ∷ rest) (k ∙ e)
-turn_fewer st rest r (Passes run) e k = let h = goes_fewer rest run in omega (arith, h)
-turn_fewer st rest r (Stops run) e k = fewer_of run.rest (st ∷ rest) (k ∙ e)
+turn_fewer : (rest : List Stated) (t : Turn) → KeepsRest (suc (length rest)) t → length (by_turn rest t).run.rest ≤ suc (length rest)
+turn_fewer rest (Pauses ask run) k = omega (arith, k)
+turn_fewer rest (Passes run) k = let h = goes_fewer rest run in omega (arith, h)
+turn_fewer rest (Stops run) k = omega (arith, k)
 
 on_fewer : (sts : List Stated) (r : Run) → r.rest ≡ sts → length (asked_on sts r).run.rest ≤ length sts
 on_fewer [] r e = fewer_of r.rest [] e
-on_fewer (st ∷ rest) r e = turn_fewer st rest r (turn st r.stage r) e (turn_keeps st r.stage r)
+on_fewer (st ∷ rest) r e = turn_fewer rest (turn st r.stage r) (turn_keeps st rest r.stage r e)
 
 asked_fewer : (r : Run) → length (asked r).run.rest ≤ length r.rest
 asked_fewer r = by (is_some r.ending)

@@ -10,9 +10,9 @@ use Rattle.fj_value.specs.declared.condition.Rule.{Rule}
 use Rattle.fj_modes.specs.declared.modes.Modes.{Modes}
 use Rattle.fj_modes.specs.declared.specifiers.OpenSpec.{OpenSpec}
 use Rattle.fj_modes.specs.declared.asked.Wanted.{Wanted}
-use Rattle.fj_modes.specs.declared.unit.Motion.{Motion}
-use Rattle.fj_modes.specs.declared.unit.UnitRef.{UnitRef}
-use Rattle.fj_modes.specs.declared.unit.UnitRef.TheVariants as unit
+use Rattle.fj_modes.specs.declared.motion.Motion.{Motion}
+use Rattle.fj_statement.specs.declared.unit.UnitRef.{UnitRef}
+use Rattle.fj_statement.specs.declared.unit.UnitRef.TheVariants as unit
 use Rattle.fj_list.specs.declared.moved.Moved.{Moved}
 use Rattle.fj_control.specs.Steps.{Given}
 use Rattle.fj_statement.specs.declared.deck.Variable.{Variable}
@@ -29,8 +29,8 @@ use Rattle.fj_desk.specs.Core.{Core, Pending, Connected, connected_at, unit_name
 use Rattle.fj_desk.specs.Desks.{Desk, Outcome, Brought, brought_by, carry, log_at, log_length, entry_with, entry_of}
 use Rattle.fj_desk.specs.Desks as desks
 use Rattle.fj_desk.specs.Doing.{Doing, finishes, gives, awaits, Desked, acted}
-use Rattle.fj_desk.specs.Desking.{entries, told_core, completed, goes_on, desk_step, fresh}
-use Rattle.fj_desk.specs.Acting.{pending_of, finishes_behind, transferred, transfer_at, keeps, disconnected, came_out, closes, closes_anyway, all_closed, connects, opens, moves, asks_connection, inquires, if_numbered, unit_at, own, doing}
+use Rattle.fj_desk.specs.Desking.{begun_at, entries, told_core, completed, goes_on, desk_step, fresh}
+use Rattle.fj_desk.specs.Acting.{pending_of, finishes_behind, transferred, transfer_at, keeps, disconnected, came_out, closes, closes_anyway, all_closed, connects, opens_unit, moves, asks_connection, inquires, if_numbered, unit_at, own, doing}
 use Rattle.fj_desk.proofs.Apart.{Each, each_imp, each_filter, each_append}
 use Rattle.fj_desk.proofs.Walking.{either, unit_by, closes_by, anyway_by, connects_by, open_by, doing_by}
 use Rattle.fj_turns.specs.Turns.{halted_slots, ends_halts, rule_of}
@@ -150,6 +150,12 @@ transfer_ends control variables line core t moved unit.Star h = h
 transfer_ends control variables line core t moved (unit.Number n) h =
     unit_by Ends control variables line core t moved (connected_at core.units n) (λ condition. h)
     (λ u e. transferred_ends control variables line core t moved u h (ap (connected_at core.units) (found_number core.units n u e) ∙ e))
+transfer_ends control variables line core t moved (unit.Held place n) h =
+    unit_by Ends control variables line core t moved (connected_at core.units n) (λ condition. h)
+    (λ u e. transferred_ends control variables line core t moved u h (ap (connected_at core.units) (found_number core.units n u e) ∙ e))
+transfer_ends control variables line core t moved (unit.New place n) h =
+    unit_by Ends control variables line core t moved (connected_at core.units n) (λ condition. h)
+    (λ u e. transferred_ends control variables line core t moved u h (ap (connected_at core.units) (found_number core.units n u e) ∙ e))
 
 -- a unit that goes, of which none is pending
 without_seated : (core : Core) (u : Connected) (n : ℕ) (keep : Bool) (o : Outcome) → AreSeated core → Gone n core → u.number ≡ n → AreSeated (disconnected core u keep o)
@@ -183,9 +189,9 @@ connects_ends core number spec modes h gone =
     connects_by Ends core number spec modes (λ condition. h)
     (λ slot c free e. let new : Connected = record { number = number; slot = slot; name = c.name; modes = c.modes } in λ o. kept number core.units (inserted new core.units) core.book (found_inserted new core.units) gone h)
 
-open_ends : (core : Core) (number : Option ℕ) (spec : OpenSpec) → AreSeated core → GoneAt number core → Ends (if_numbered core number (λ n. opens core n spec (connected_at core.units n)))
-open_ends core number spec h gone =
-    open_by Ends core spec number (λ condition. h)
+open_ends : (core : Core) (ref : UnitRef) (number : Option ℕ) (spec : OpenSpec) → AreSeated core → GoneAt number core → Ends (if_numbered core number (λ n. opens_unit core ref n spec (connected_at core.units n)))
+open_ends core ref number spec h gone =
+    open_by Ends core ref spec number (λ condition. h)
     (λ n u modes is e. let new : Connected = record u { modes = modes } in
     λ o. kept u.number core.units (with_connected new core.units) core.book (found_with new core.units) (subst (λ k. Gone k core) (sym (found_number core.units n u e)) (gone n is)) h)
     (λ n modes is e. connects_ends core n spec modes h (gone n is))
@@ -211,7 +217,7 @@ Left _ core = Unit {0}
 module _ (control : ℕ → List Given) (variables : List Variable) (line : ℕ) (core : Core) where
   own_ends : (st : Statement) → AreSeated core → Left st core → Ends (own control variables line core st)
   own_ends (statement.Assign to from) h l = h
-  own_ends (statement.OpenUnit u spec iostat) h l = open_ends core (number_of u) spec h l
+  own_ends (statement.OpenUnit u spec iostat) h l = open_ends core u (number_of u) spec h l
   own_ends (statement.CloseUnit u keep iostat) h l = closes_ends core keep (number_of u) h l
   own_ends (statement.WaitFor u id iostat) h l = h
   own_ends (statement.Move how u iostat) h l = moves_ends core how (unit_at core (number_of u)) h
@@ -340,11 +346,11 @@ seated_on variables [] index p statement before h e = cc
 seated_on variables (st ∷ more) zero p statement before h e =
     let here : p ≡ before = ap (λ (o : Option (Stated × Desked)). elim o as (λ _. Desked) [ None ↦ p | Some x ↦ x.1 ]) e in subst (λ q. AreSeated q.core) here h
 seated_on variables (st ∷ more) (suc index) p statement before h e =
-    by (desk_step variables st p).1 refl (λ f. seated_on variables more index (desk_step variables st p).0 statement before (step_seated variables st p h) f)
+    by (desk_step variables (begun_at p st) p).1 refl (λ f. seated_on variables more index (desk_step variables (begun_at p st) p).0 statement before (step_seated variables (begun_at p st) p h) f)
   where
-    by : (o : Option Ending) → (desk_step variables st p).1 ≡ o → (cut_desks variables index more (desk_step variables st p).0 ≡ Some (statement, before) → AreSeated before.core) → AreSeated before.core
+    by : (o : Option Ending) → (desk_step variables (begun_at p st) p).1 ≡ o → (cut_desks variables index more (desk_step variables (begun_at p st) p).0 ≡ Some (statement, before) → AreSeated before.core) → AreSeated before.core
     by (Some x) f later =
-        absurd (let z : None ≡ Some (statement, before) = sym (ap (λ o. elim o as (λ _. Option (Stated × Desked)) [ None ↦ cut_desks variables index more (desk_step variables st p).0 | Some y ↦ None ]) f) ∙ e in cc)
+        absurd (let z : None ≡ Some (statement, before) = sym (ap (λ o. elim o as (λ _. Option (Stated × Desked)) [ None ↦ cut_desks variables index more (desk_step variables (begun_at p st) p).0 | Some y ↦ None ]) f) ∙ e in cc)
     by None f later = later (sym (cut_on variables index st more p f) ∙ e)
 
 -- just before each statement

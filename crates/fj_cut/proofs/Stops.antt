@@ -16,7 +16,7 @@ use Rattle.fj_desk.proofs.Forgetting.{results_same}
 use Rattle.fj_desk.proofs.Seen.{Seen}
 use Rattle.fj_turns.specs.Standing.{Waits, AwaitsJob}
 use Rattle.fj_turns.proofs.Meant.{CutTied, cut_of_deck}
-use Rattle.fj_modes.specs.declared.unit.Motion.TheVariants as motion
+use Rattle.fj_modes.specs.declared.motion.Motion.TheVariants as motion
 use Rattle.fj_cut.specs.Others.{Names, names_of, names_in, opens_on, file_opened, file_about, file_renewed, core_now, left_now, has_file, AreHoused, StopsLeaveOthers, CutRunsLeaveOthers}
 use Rattle.fj_cut.proofs.Keeping.{has_before, has_behind}
 use Rattle.fj_cut.proofs.Deck.{others_stay, units_keep_desks, housed_before}

@@ -1,5 +1,5 @@
 -- The turns of a runner: what each does is what the statement does behind so many of its jobs.
-use Rattle.std.proofs.Common.{◌≡◌, ◌⊎◌, ℕ, true, false, List, [], drop, Some, None, is_some, refl, sym, ap, ◌∙◌, subst, inl, inr}
+use Rattle.std.proofs.Common.{◌≡◌, ◌⊎◌, ℕ, true, false, List, [], length, drop, Some, None, is_some, refl, sym, ap, ◌∙◌, subst, inl, inr}
 use Rattle.fj_statement.specs.declared.deck.Variable.{Variable}
 use Rattle.fj_slot.specs.Serving.{Meaning}
 use Rattle.fj_world.specs.Losing.{before_ask}
@@ -15,7 +15,7 @@ use Rattle.fj_desk.specs.Desks.{Desk}
 use Rattle.fj_desk.specs.Doing.{Doing, finishes, gives, awaits, Desked}
 use Rattle.fj_desk.specs.Desking.{fresh}
 use Rattle.fj_turns.specs.Run.{Run, Stage, Start, Waiting, Acting, Awaiting}
-use Rattle.fj_turns.specs.Turns.{turn, turn_act, start_by, wait_by, with_tells, rule_of, doing_told, waited_now}
+use Rattle.fj_turns.specs.Turns.{begun_for, hand_at, with_hand, turn, turn_act, start_by, unsettled, wait_by, with_tells, rule_of, doing_told, waited_now}
 use Rattle.fj_turns.specs.Inside.{waited_at, does, walked, cut_desks}
 use Rattle.fj_turns.specs.Standing.{GivesNext, GivesJob, Asks, StandsIn}
 use Rattle.fj_turns.specs.Serving.{over_bays, Shows, run_conduct, desks_of, first_run, fresh_slots, begins}
@@ -24,7 +24,7 @@ use Rattle.fj_turns.specs.Passing.{passes, known_due, knows_at, KnowsAnswers}
 use Rattle.fj_turns.proofs.Before.{Fares, fares_after}
 use Rattle.fj_turns.proofs.Cutting.{each_entry}
 use Rattle.fj_turns.proofs.Meant.{CutTied, cut_of_deck}
-use Rattle.fj_turns.proofs.Passed.{passes_none, At, passes_stand}
+use Rattle.fj_turns.proofs.Passed.{passes_none, At, long_at, passes_stand}
 use Rattle.fj_turns.proofs.Reaching.{waited_is}
 use Rattle.fj_turns.proofs.Slots.{same_some}
 use Rattle.fj_turns.proofs.Stages.{AtStage}
@@ -44,18 +44,20 @@ IsBehind variables st p desks d = (jobs : ℕ) × (walked jobs p.desks (does var
 
 module _ {E J A : Type 0} (m : Meaning E J A Bay Job Answer) where
   told_behind : (variables : List Variable) (st : Stated) (p : Desked) (r : Run) (qs : List (PlainSlot Bay Job)) (d : Doing) → r.variables ≡ variables → Ties m r qs p
-      → knows_at st Start r → Some (doing_told r.variables st (waited_now st r) r.core) ≡ Some d → IsBehind variables st p (desks_of m qs) d
+      → unsettled (waited_now st r) r.book ≡ None → Some (doing_told r.variables st (waited_now st r) r.core) ≡ Some d → IsBehind variables st p (desks_of m qs) d
   told_behind variables st p r qs d vs t known e =
       let same : does variables st p ≡ d =
       sym (ap (λ v. doing_told v st (waited_now st r) r.core) vs ∙ ap (λ es. doing_told variables st es r.core) (waited_is m st r qs p t known) ∙ ap (doing_told variables st (waited_at st p)) t.core) ∙ same_some e in
       (0, ap (λ ds. (ds, does variables st p)) (sym t.desks) ∙ ap (λ x. (desks_of m qs, x)) same)
 
-  stage_behind : (variables : List Variable) (st : Stated) (p : Desked) (r : Run) (qs : List (PlainSlot Bay Job)) (d : Doing) → r.variables ≡ variables → (stage : Stage) → AtStage m variables st p r qs stage
-      → knows_at st stage r → doing_at st stage r ≡ Some d → IsBehind variables st p (desks_of m qs) d
-  stage_behind variables st p r qs d vs Start t known e = told_behind variables st p r qs d vs t known e
-  stage_behind variables st p r qs d vs Waiting (t, allowed) known e = told_behind variables st p r qs d vs t known e
-  stage_behind variables st p r qs d vs (Acting next) (w, allowed) known e = (w.jobs, w.walk ∙ ap (λ ds. (ds, next)) (sym w.ties.desks) ∙ ap (λ x. (desks_of m qs, x)) (same_some e))
-  stage_behind variables st p r qs d vs (Awaiting slot number next) (w, allowed) known e = cc
+  stage_behind : (variables : List Variable) (at_hand st : Stated) (p : Desked) (r : Run) (qs : List (PlainSlot Bay Job)) (d : Doing) → r.variables ≡ variables → (stage : Stage) → AtStage m variables st p r qs stage
+      → hand_at at_hand stage r ≡ st → knows_at at_hand stage r → doing_at at_hand stage r ≡ Some d → IsBehind variables st p (desks_of m qs) d
+  stage_behind variables at_hand st p r qs d vs Start t h known e =
+      told_behind variables st p r qs d vs t (subst (λ y. unsettled (waited_now y r) r.book ≡ None) h known) (subst (λ y. Some (doing_told r.variables y (waited_now y r) r.core) ≡ Some d) h e)
+  stage_behind variables at_hand st p r qs d vs Waiting (t, allowed) h known e =
+      told_behind variables st p r qs d vs t (subst (λ y. unsettled (waited_now y r) r.book ≡ None) h known) (subst (λ y. Some (doing_told r.variables y (waited_now y r) r.core) ≡ Some d) h e)
+  stage_behind variables at_hand st p r qs d vs (Acting next) (w, allowed) h known e = (w.jobs, w.walk ∙ ap (λ ds. (ds, next)) (sym w.ties.desks) ∙ ap (λ x. (desks_of m qs, x)) (same_some e))
+  stage_behind variables at_hand st p r qs d vs (Awaiting slot number next) (w, allowed) h known e = cc
 
   -- while nothing of it is begun
   stage_before : (variables : List Variable) (st : Stated) (p : Desked) (r : Run) (qs : List (PlainSlot Bay Job)) (stage : Stage) → AtStage m variables st p r qs stage → IsUnbegun stage → Ties m r qs p
@@ -75,7 +77,7 @@ module _ {E J A : Type 0} (m : Meaning E J A Bay Job Answer) where
     statement = x.statement;
     state = it.state;
     cut_is = it.cut_is;
-    rest = x.place;
+    rest = long_at m variables deck (fresh variables files) run qs x;
     units = λ known d e. let at = behind known d e in
         subst (λ (z : List Desk × Doing). AreHoused z.0 (core_now z.1).units) at.1 (units_keep_desks variables deck files x.index x.statement x.before at.0 x.reached).inside;
     others = λ known d e name about. let at = behind known d e in
@@ -104,7 +106,7 @@ module _ {E J A : Type 0} (m : Meaning E J A Bay Job Answer) where
 
       behind : KnowsAnswers run → (d : Doing) → turn_doing run ≡ Some d → IsBehind variables x.statement x.before (desks_of m qs) d
       behind known d e =
-          stage_behind variables x.statement x.before run qs d x.variables_are run.stage x.stands (subst (λ l. known_due l run) x.here known) (sym (ap (λ l. doing_due l run) x.here) ∙ e)
+          stage_behind variables x.at_hand x.statement x.before run qs d x.variables_are run.stage x.stands x.hand (subst (λ l. known_due l run) x.here known) (sym (ap (λ l. doing_due l run) x.here) ∙ e)
 
 module _ {E J A S : Type 0} (m : Meaning E J A Bay Job Answer) (s : Shows S) where
   abbrev c : Conduct S Job Answer
@@ -135,7 +137,7 @@ gives_core (gives at task now next) slot job core h = h.2
 gives_core (awaits at task now next) slot job core h = h.2
 
 submit_leaves : (variables : List Variable) (deck : List Stated) (files : Files) (run : Run) (desks : List Desk) (index : ℕ) (statement : Stated) (before : Desked) (slot : ℕ) (job : Job)
-    → cut_desks variables index deck (fresh variables files) ≡ Some (statement, before) → run.rest ≡ drop index deck → GivesJob variables statement before slot job run desks → SubmitLeavesOthers variables deck files run desks
+    → cut_desks variables index deck (fresh variables files) ≡ Some (statement, before) → length run.rest ≡ length (drop index deck) → GivesJob variables statement before slot job run desks → SubmitLeavesOthers variables deck files run desks
 submit_leaves variables deck files run desks index statement before slot job reached rest g = record {
   index = index;
   statement = statement;
@@ -198,10 +200,14 @@ submits_leave_others s = each_submit plain_bays (shown s)
 pub turns_do : TurnsDo
 turns_do st rest r d here allowed known e = by r.stage allowed (subst (λ l. known_due l r) here known) (sym (ap (λ l. doing_due l r) here) ∙ e)
   where
-    by : (stage : Stage) → (stage ≡ Start → rule_of r.variables st r.core ≡ None) → knows_at st stage r → doing_at st stage r ≡ Some d → (acting : Run) × (turn st stage r ≡ turn_act st d acting)
+    x : Stated
+    x = begun_for r st
+
+    by : (stage : Stage) → (stage ≡ Start → rule_of r.variables x r.core ≡ None) → knows_at st stage r → doing_at st stage r ≡ Some d → (acting : Run) × (turn st stage r ≡ turn_act (hand_at st stage r) d acting)
     by Start allowed known e =
-        let acting : Run = with_tells st (waited_now st r) r in
-        (acting, ap (λ o. start_by st o r) (allowed refl) ∙ ap (λ o. wait_by st (waited_now st r) o r) known ∙ ap (λ x. turn_act st x acting) (same_some e))
+        let begun : Run = with_hand x r in
+        let acting : Run = with_tells x (waited_now x r) begun in
+        (acting, ap (λ o. start_by x o begun) (allowed refl) ∙ ap (λ o. wait_by x (waited_now x r) o begun) known ∙ ap (λ y. turn_act x y acting) (same_some e))
     by Waiting allowed known e = let acting : Run = with_tells st (waited_now st r) r in (acting, ap (λ o. wait_by st (waited_now st r) o r) known ∙ ap (λ x. turn_act st x acting) (same_some e))
     by (Acting next) allowed known e = (r, ap (λ x. turn_act st x r) (same_some e))
     by (Awaiting slot number next) allowed known e = cc

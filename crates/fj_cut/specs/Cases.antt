@@ -1,6 +1,6 @@
 -- Worked cases: a deck of two units, cut inside a statement that closes both, and inside one that opens another file.
 use Rattle.std.specs.Prelude.{◌≡◌, ℕ, pos, true, false, List, [], ◌∷◌, map, codes, Option, Some, None}
-use Rattle.fj_modes.specs.declared.unit.Motion.TheVariants.{Rewind, Endfile}
+use Rattle.fj_modes.specs.declared.motion.Motion.TheVariants.{Rewind, Endfile}
 use Rattle.fj_plain.specs.State.{Files}
 use Rattle.fj_plain.specs.Statement.{Stated}
 use Rattle.fj_plain.specs.DeckWords.{whole, no_files, file, lines_from, opening, plain_open, replacing, i_transfer, now, by_i, motion, close, «end», Written}

@@ -4,7 +4,7 @@ use Rattle.std.specs.Prelude.{◌≡◌, ◌≢◌, ℕ, ◌==◌, ◌&&◌, Boo
 use Rattle.std.specs.List.{list_any}
 use Rattle.std.specs.Str.{bytes_eq}
 use Rattle.fj_modes.specs.declared.specifiers.OpenSpec.{OpenSpec}
-use Rattle.fj_modes.specs.declared.unit.Motion.TheVariants as motion
+use Rattle.fj_modes.specs.declared.motion.Motion.TheVariants as motion
 use Rattle.fj_statement.specs.declared.deck.Variable.{Variable}
 use Rattle.fj_statement.specs.declared.statement.Statement.{Statement}
 use Rattle.fj_statement.specs.declared.statement.Statement.TheVariants as statement

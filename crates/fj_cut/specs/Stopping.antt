@@ -53,7 +53,7 @@ module _ (variables : List Variable) (deck : List Stated) (files : Files) where
   -- the runner is at a statement of the deck, and so the jobs of each slot were given; those that earlier statements wait for were told
   pub record WereGiven (run : Run) (slots : List (PlainSlot Bay Job)) : Type 0 where
     pub index : ℕ
-    pub rest : run.rest ≡ drop index deck
+    pub rest : length run.rest ≡ length (drop index deck)
     pub within : index < length deck
     pub each : (at : ℕ) (q : PlainSlot Bay Job) → slice_get slots at ≡ Some q → AreGiven index at q.start q.jobs
     pub told : (at : ℕ) (q : PlainSlot Bay Job) → slice_get slots at ≡ Some q → (number : ℕ) → WasAwaited index at number → number < q.told

@@ -1,5 +1,5 @@
 -- The turn of a statement, in which a call on the disk may fail: what it does, and what closing all units then leaves of the other files.
-use Rattle.std.specs.Prelude.{◌≡◌, ◌≢◌, ◌⊎◌, ℕ, true, List, [], ◌∷◌, drop, Option, Some, None}
+use Rattle.std.specs.Prelude.{◌≡◌, ◌≢◌, ◌⊎◌, ℕ, true, List, [], ◌∷◌, length, drop, Option, Some, None}
 use Rattle.fj_connect.specs.Connection.{Connection}
 use Rattle.fj_statement.specs.declared.deck.Variable.{Variable}
 use Rattle.fj_slot.specs.Serving.{Meaning}
@@ -14,18 +14,21 @@ use Rattle.fj_desk.specs.Core.{Core, has_name}
 use Rattle.fj_desk.specs.Desks.{Desk, Outcome}
 use Rattle.fj_desk.specs.Doing.{Doing, awaits}
 use Rattle.fj_turns.specs.Run.{Run, Stage, Start, Waiting, Acting, Awaiting}
-use Rattle.fj_turns.specs.Turns.{turn, turn_act, rule_of, doing_told, waited_now}
+use Rattle.fj_turns.specs.Turns.{begun_for, hand_at, turn, turn_act, rule_of, doing_told, waited_now}
 use Rattle.fj_turns.specs.Serving.{over_bays, Shows, run_conduct, desks_of, first_run, fresh_slots, begins}
 use Rattle.fj_turns.specs.Passing.{passes, KnowsAnswers}
 use Rattle.fj_turns.specs.Laws.{plain_bays, Seen, shown}
 use Rattle.fj_cut.specs.Others.{names_of, names_in, file_opened, file_about, file_renewed, core_now, left_now, AreHoused}
 
 -- what the turn of the statement does, once the answers that it needs are known; nothing, where it waits for its own job
+abbrev pub doing_on : Stated → Stage → Run → Option Doing
+doing_on st Start r = Some (doing_told r.variables st (waited_now st r) r.core)
+doing_on st Waiting r = Some (doing_told r.variables st (waited_now st r) r.core)
+doing_on st (Acting does) r = Some does
+doing_on st (Awaiting slot number next) r = None
+
 abbrev pub doing_at : Stated → Stage → Run → Option Doing
-doing_at st Start r = Some (doing_told r.variables st (waited_now st r) r.core)
-doing_at st Waiting r = Some (doing_told r.variables st (waited_now st r) r.core)
-doing_at st (Acting does) r = Some does
-doing_at st (Awaiting slot number next) r = None
+doing_at st stage r = doing_on (hand_at st stage r) stage r
 
 abbrev pub doing_due : List Stated → Run → Option Doing
 doing_due [] r = None
@@ -44,8 +47,8 @@ IsUnbegun (Awaiting slot number next) = ⊥
 
 -- so it does: its turn acts by that, unless the statement is prohibited
 abbrev pub TurnsDo : Type 0
-TurnsDo = (st : Stated) (rest : List Stated) (r : Run) (d : Doing) → r.rest ≡ st ∷ rest → (r.stage ≡ Start → rule_of r.variables st r.core ≡ None) → KnowsAnswers r → turn_doing r ≡ Some d →
-    (acting : Run) × (turn st r.stage r ≡ turn_act st d acting)
+TurnsDo = (st : Stated) (rest : List Stated) (r : Run) (d : Doing) → r.rest ≡ st ∷ rest → (r.stage ≡ Start → rule_of r.variables (begun_for r st) r.core ≡ None) → KnowsAnswers r → turn_doing r ≡ Some d →
+    (acting : Run) × (turn st r.stage r ≡ turn_act (hand_at st r.stage r) d acting)
 
 -- A runner with these desks stands at a statement, and the execution is cut just before it, in this state. Where it knows the answers
 -- that it needs, the units of what its turn does have their desks, and each file that the statement is not about is, were all units
@@ -55,7 +58,7 @@ pub record TurnLeavesOthers (variables : List Variable) (deck : List Stated) (fi
   pub statement : Stated
   pub state : State
   pub cut_is : cut variables index deck (start variables files) ≡ Some (statement, state)
-  pub rest : run.rest ≡ drop index deck
+  pub rest : length run.rest ≡ length (drop index deck)
   pub units : KnowsAnswers run → (d : Doing) → turn_doing run ≡ Some d → AreHoused desks (core_now d).units
   pub others : KnowsAnswers run → (d : Doing) → turn_doing run ≡ Some d → (name : List ℕ) → file_about (names_in state.units) statement.0.what ≢ Some name →
       left_now desks (core_now d) name ≡ (all_closed state).files name
@@ -75,7 +78,7 @@ pub record SubmitLeavesOthers (variables : List Variable) (deck : List Stated) (
   pub statement : Stated
   pub state : State
   pub cut_is : cut variables index deck (start variables files) ≡ Some (statement, state)
-  pub rest : run.rest ≡ drop index deck
+  pub rest : length run.rest ≡ length (drop index deck)
   pub units : AreHoused desks run.core.units
   pub others : (name : List ℕ) → file_about (names_in state.units) statement.0.what ≢ Some name → left_now desks run.core name ≡ (all_closed state).files name
   -- one that the statement is about, and neither opens nor removes, has its unit

@@ -40,6 +40,7 @@ changed_tied p s number u at behind modes t e r = record {
     files = t.same.files;
     output = t.same.output;
     next = t.same.next;
+    new_unit = t.same.new_unit;
     tells = t.same.tells;
   };
   slots = record {

@@ -118,6 +118,7 @@ out_tied p s number u at keep t e none = record {
     files = file_left u.name at.it.connection keep p.core.files at.seen.name ∙ ap (plain.left at.it.connection keep) t.same.files;
     output = t.same.output;
     next = t.same.next;
+    new_unit = t.same.new_unit;
     tells = t.same.tells;
   };
   slots = record {

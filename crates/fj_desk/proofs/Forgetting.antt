@@ -1,14 +1,14 @@
 -- Whole decks over desks, and their results.
-use Rattle.std.proofs.Common.{◌≡◌, ℕ, zero, suc, ◌<◌, List, [], ◌∷◌, replicate, Option, Some, None, slice_get, refl, ap, ◌∙◌, arith}
+use Rattle.std.proofs.Common.{◌≡◌, ℕ, zero, suc, ◌<◌, List, [], ◌∷◌, replicate, Option, Some, None, slice_get, refl, sym, ap, ◌∙◌, subst, arith}
 use Rattle.fj_bay.specs.Bay.{Bay}
 use Rattle.fj_statement.specs.declared.deck.Variable.{Variable}
 use Rattle.fj_plain.specs.State.{State, Files, start, files_closed}
 use Rattle.fj_plain.specs.State as plain
-use Rattle.fj_plain.specs.Statement.{Stated, Ending, Ran, executed, step, result_of}
+use Rattle.fj_plain.specs.Statement.{Stated, Ending, Ran, begins, begun_in, executed, step, result_of}
 use Rattle.fj_desk.specs.Core.{Connected}
 use Rattle.fj_desk.specs.Desks.{Desk}
 use Rattle.fj_desk.specs.Doing.{Desked}
-use Rattle.fj_desk.specs.Desking.{DesksRan, over_desks, desk_step, fresh, connection_at, left_by, all_left, desk_result}
+use Rattle.fj_desk.specs.Desking.{DesksRan, begun_at, over_desks, desk_step, fresh, connection_at, left_by, all_left, desk_result}
 use Rattle.fj_desk.specs.Forgetting.{Forgets, bay_at}
 use Rattle.fj_desk.proofs.Apart.{Each}
 use Rattle.fj_desk.proofs.Seen.{Seen}
@@ -24,7 +24,7 @@ get_replicated (suc n) x (suc k) h = get_replicated n x k (omega (arith, h))
 
 pub start_tied : (variables : List Variable) (files : Files) → Tied (fresh variables files) (start variables files)
 start_tied variables files = record {
-  same = record { vars = refl; book = refl; units = tt; files = refl; output = refl; next = refl; tells = refl };
+  same = record { vars = refl; book = refl; units = tt; files = refl; output = refl; next = refl; new_unit = refl; tells = refl };
   slots = record { apart = tt; idle = λ k l d. ap bay_at (get_replicated 16 fresh_desk k l); sixteen = refl; placed = tt };
   numbers = tt;
 }
@@ -32,39 +32,68 @@ start_tied variables files = record {
     fresh_desk : Desk
     fresh_desk = record { bay = record { connection = None; halt = None }; log = [] }
 
+-- a statement begins alike
+pub begun_same : (p : Desked) (s : State) (st : Stated) → Tied p s → begun_at p st ≡ begun_in s st
+begun_same p s st t = ap (λ v. begins v p.core.new_unit st) t.same.vars ∙ ap (λ n. begins s.vars n st) t.same.new_unit
+
 -- ---- a deck, where something sound is kept by each statement by which halted units have a pending transfer that tells of it
 
 module _ (Sound : State → Type 0) (caused : (s : State) → Sound s → Each (Caused s.book) s.units) (kept : (variables : List Variable) (st : Stated) (s : State) → Sound s → Sound (step variables st s).0) where
+  module _ (variables : List Variable) (st : Stated) (p : Desked) (s : State) (t : Tied p s) (h : Sound s) where
+    abbrev pub on_desks : Desked × Option Ending
+    on_desks = desk_step variables (begun_at p st) p
+
+    abbrev pub meant : State × Option Ending
+    meant = step variables (begun_in s st) s
+
+    pub both : (on_desks.1 ≡ meant.1) × Tied on_desks.0 meant.0
+    both = subst (λ y. ((desk_step variables y p).1 ≡ meant.1) × Tied (desk_step variables y p).0 meant.0) (sym (begun_same p s st t)) (step_tied variables (begun_in s st) p s t (caused s h))
+
+    pub after : Sound meant.0
+    after = kept variables (begun_in s st) s h
+
   deck_forgets : (variables : List Variable) (sts : List Stated) (p : Desked) (s : State) → Tied p s → Sound s → Forgets (over_desks variables sts p) (executed variables sts s)
   deck_forgets variables [] p s t h = record { ending = refl; same = t.same }
   deck_forgets variables (st ∷ more) p s t h =
-      let done = step_tied variables st p s t (caused s h) in
-      by (desk_step variables st p).1 (step variables st s).1 done.0 done.1 (deck_forgets variables more (desk_step variables st p).0 (step variables st s).0 done.1 (kept variables st s h))
+      let done = both variables st p s t h in
+      by d.1 e.1 done.0 done.1 (deck_forgets variables more d.0 e.0 done.1 (after variables st p s t h))
     where
-      by : (a b : Option Ending) → a ≡ b → Tied (desk_step variables st p).0 (step variables st s).0 → Forgets (over_desks variables more (desk_step variables st p).0) (executed variables more (step variables st s).0)
-          → Forgets (elim a as (λ _. DesksRan) [ None ↦ over_desks variables more (desk_step variables st p).0 | Some e ↦ record { desked = (desk_step variables st p).0; ending = Some e } ])
-          (elim b as (λ _. Ran) [ None ↦ executed variables more (step variables st s).0 | Some e ↦ record { state = (step variables st s).0; ending = Some e } ])
-      by None None e u f = f
-      by None (Some x) e u f = cc
-      by (Some x) None e u f = cc
-      by (Some x) (Some y) e u f = record { ending = e; same = u.same }
+      d : Desked × Option Ending
+      d = on_desks variables st p s t h
+
+      e : State × Option Ending
+      e = meant variables st p s t h
+
+      by : (a b : Option Ending) → a ≡ b → Tied d.0 e.0 → Forgets (over_desks variables more d.0) (executed variables more e.0)
+          → Forgets (elim a as (λ _. DesksRan) [ None ↦ over_desks variables more d.0 | Some o ↦ record { desked = d.0; ending = Some o } ])
+          (elim b as (λ _. Ran) [ None ↦ executed variables more e.0 | Some o ↦ record { state = e.0; ending = Some o } ])
+      by None None q u f = f
+      by None (Some o) q u f = cc
+      by (Some o) None q u f = cc
+      by (Some o) (Some k) q u f = record { ending = q; same = u.same }
 
   -- what is reached, too where a statement ended the deck
   pub reached_tied : (variables : List Variable) (sts : List Stated) (p : Desked) (s : State) → Tied p s → Sound s → Tied (over_desks variables sts p).desked (executed variables sts s).state × Sound (executed variables sts s).state
   reached_tied variables [] p s t h = (t, h)
   reached_tied variables (st ∷ more) p s t h =
-      let done = step_tied variables st p s t (caused s h) in
-      let sound = kept variables st s h in
-      by (desk_step variables st p).1 (step variables st s).1 done.0 done.1 sound (reached_tied variables more (desk_step variables st p).0 (step variables st s).0 done.1 sound)
+      let done = both variables st p s t h in
+      let sound = after variables st p s t h in
+      by d.1 e.1 done.0 done.1 sound (reached_tied variables more d.0 e.0 done.1 sound)
     where
-      by : (a b : Option Ending) → a ≡ b → Tied (desk_step variables st p).0 (step variables st s).0 → Sound (step variables st s).0
-          → Tied (over_desks variables more (desk_step variables st p).0).desked (executed variables more (step variables st s).0).state × Sound (executed variables more (step variables st s).0).state
-          → (let x : DesksRan = elim a as (λ _. DesksRan) [ None ↦ over_desks variables more (desk_step variables st p).0 | Some e ↦ record { desked = (desk_step variables st p).0; ending = Some e } ] in
-          let y : Ran = elim b as (λ _. Ran) [ None ↦ executed variables more (step variables st s).0 | Some e ↦ record { state = (step variables st s).0; ending = Some e } ] in Tied x.desked y.state × Sound y.state)
-      by None None e u v f = f
-      by None (Some x) e u v f = cc
-      by (Some x) None e u v f = cc
-      by (Some x) (Some y) e u v f = (u, v)
+      d : Desked × Option Ending
+      d = on_desks variables st p s t h
+
+      e : State × Option Ending
+      e = meant variables st p s t h
+
+      by : (a b : Option Ending) → a ≡ b → Tied d.0 e.0 → Sound e.0
+          → Tied (over_desks variables more d.0).desked (executed variables more e.0).state × Sound (executed variables more e.0).state
+          → (let m : DesksRan = elim a as (λ _. DesksRan) [ None ↦ over_desks variables more d.0 | Some o ↦ record { desked = d.0; ending = Some o } ] in
+          let n : Ran = elim b as (λ _. Ran) [ None ↦ executed variables more e.0 | Some o ↦ record { state = e.0; ending = Some o } ] in Tied m.desked n.state × Sound n.state)
+      by None None q u v f = f
+      by None (Some o) q u v f = cc
+      by (Some o) None q u v f = cc
+      by (Some o) (Some k) q u v f = (u, v)
 
   pub slots_forgotten : (variables : List Variable) (sts : List Stated) (files : Files) → Sound (start variables files) → Forgets (over_desks variables sts (fresh variables files)) (executed variables sts (start variables files))
   slots_forgotten variables sts files h = deck_forgets variables sts (fresh variables files) (start variables files) (start_tied variables files) h

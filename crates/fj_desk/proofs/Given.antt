@@ -7,10 +7,10 @@ use Rattle.fj_value.specs.declared.condition.Condition.{Condition}
 use Rattle.fj_value.specs.declared.condition.Condition.TheVariants.{Fine, EndOfFile, EndOfRecord, Error}
 use Rattle.fj_modes.specs.declared.modes.Modes.{Modes}
 use Rattle.fj_modes.specs.declared.asked.Wanted.{Wanted}
-use Rattle.fj_modes.specs.declared.unit.Motion.{Motion}
-use Rattle.fj_modes.specs.declared.unit.Motion.TheVariants as motion
-use Rattle.fj_modes.specs.declared.unit.UnitRef.{UnitRef}
-use Rattle.fj_modes.specs.declared.unit.UnitRef.TheVariants as unit
+use Rattle.fj_modes.specs.declared.motion.Motion.{Motion}
+use Rattle.fj_modes.specs.declared.motion.Motion.TheVariants as motion
+use Rattle.fj_statement.specs.declared.unit.UnitRef.{UnitRef}
+use Rattle.fj_statement.specs.declared.unit.UnitRef.TheVariants as unit
 use Rattle.fj_control.specs.Steps.{Given}
 use Rattle.fj_connect.specs.Positions.{ended}
 use Rattle.fj_transfer.specs.Transfer.{Done, transfer_by}
@@ -136,6 +136,8 @@ module _ (control : ℕ → List Given) (variables : List Variable) (line : ℕ)
           → Both (IsGiven p.core.units after) (given p.desks (transfer_at control variables line p.core t (moved_by variables s t) ref)) (fitting_jobs control variables line s t (meant.unit_at s (number_of ref)))
       by unit.Star f = tt
       by (unit.Number n) f = unit_given p s t n ties (λ q. f q n refl) after (connected_at p.core.units n) refl
+      by (unit.Held place n) f = unit_given p s t n ties (λ q. f q n refl) after (connected_at p.core.units n) refl
+      by (unit.New place n) f = unit_given p s t n ties (λ q. f q n refl) after (connected_at p.core.units n) refl
 
 -- ---- CLOSE and END
 

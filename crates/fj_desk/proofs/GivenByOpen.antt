@@ -20,9 +20,11 @@ use Rattle.fj_desk.specs.Core.{Connected, connected_at, without_connected}
 use Rattle.fj_desk.specs.Desks.{carry, most_slots}
 use Rattle.fj_desk.specs.Doing.{Doing, Desked, acted, given, finishes}
 use Rattle.fj_desk.specs.Acting as desk
-use Rattle.fj_desk.specs.Acting.{keeps, disconnected, detaches, free_from, attaches, connects, connects_at, opens_with, opens, changes}
+use Rattle.fj_statement.specs.declared.unit.UnitRef.{UnitRef}
+use Rattle.fj_statement.specs.Units.{is_outside}
+use Rattle.fj_desk.specs.Acting.{keeps, disconnected, detaches, free_from, attaches, connects, connects_at, opens_with, opens, opens_unit, changes}
 use Rattle.fj_desk.specs.Both.{Both}
-use Rattle.fj_desk.specs.Giving.{Jobs, brought, connect_jobs, opening_jobs, mode_jobs, open_jobs, IsGiven}
+use Rattle.fj_desk.specs.Giving.{Jobs, brought, connect_jobs, opening_jobs, mode_jobs, open_jobs, open_unit_jobs, IsGiven}
 use Rattle.fj_desk.proofs.Apart.{Differs}
 use Rattle.fj_desk.proofs.Seen.{At, at_unit, not_at_unit, taken_same}
 use Rattle.fj_desk.proofs.Tied.{Tied, Free}
@@ -126,3 +128,22 @@ opens_given p s number spec t free after is = by (connected_at p.core.units numb
             (if b then mode_jobs at.it.number (mode.changed at.it.connection.modes spec) else opening_jobs s number spec (Some at.it) (settled spec))
         which true j = modes_given p s number u at spec e after
         which false j = other_given p s number spec u at t e free (settled spec) after j
+
+pub opens_unit_given : (p : Desked) (s : State) (ref : UnitRef) (number : ℕ) (spec : OpenSpec) → Tied p s → Free number s.units
+    → Gives p (opens_unit p.core ref number spec (connected_at p.core.units number)) (open_unit_jobs s ref number spec (found s.units number))
+opens_unit_given p s ref number spec t free = by (connected_at p.core.units number) refl (opens_given p s number spec t free)
+  where
+    outside : (b : Bool) (d : Doing) (jobs : Jobs) → Gives p d jobs → Gives p (if b then finishes p.core (Error 3) else d) (if b then [] else jobs)
+    outside true d jobs h after is = tt
+    outside false d jobs h after is = h after is
+
+    by : (o : Option Connected) → connected_at p.core.units number ≡ o → Gives p (opens p.core number spec o) (open_jobs s number spec (found s.units number))
+        → Gives p (opens_unit p.core ref number spec o) (open_unit_jobs s ref number spec (found s.units number))
+    by None e h =
+        let none = (not_at_unit p.desks p.core.units s.units number t.same.units e).0 in
+        subst (λ o. Gives p (opens_unit p.core ref number spec None) (open_unit_jobs s ref number spec o)) (sym none)
+        (outside (is_outside ref) (opens p.core number spec None) (open_jobs s number spec None) (subst (λ o. Gives p (opens p.core number spec None) (open_jobs s number spec o)) none h))
+    by (Some u) e h =
+        let at : At p.desks s.units number u = at_unit p.desks p.core.units s.units number u t.same.units e in
+        subst (λ o. Gives p (opens p.core number spec (Some u)) (open_unit_jobs s ref number spec o)) (sym at.found_is)
+        (subst (λ o. Gives p (opens p.core number spec (Some u)) (open_jobs s number spec o)) at.found_is h)

@@ -4,8 +4,9 @@ use Rattle.std.specs.Prelude.{if◌then◌else◌}
 use Rattle.fj_value.specs.declared.condition.Condition.{Condition}
 use Rattle.fj_value.specs.declared.condition.Condition.TheVariants.{Fine, EndOfFile, EndOfRecord, Error}
 use Rattle.fj_value.specs.declared.condition.Rule.{Rule}
-use Rattle.fj_modes.specs.declared.asked.Subject.{Subject}
-use Rattle.fj_modes.specs.declared.asked.Subject.TheVariants as subject
+use Rattle.fj_statement.specs.declared.unit.UnitRef.{UnitRef}
+use Rattle.fj_statement.specs.declared.unit.Subject.{Subject}
+use Rattle.fj_statement.specs.declared.unit.Subject.TheVariants as subject
 use Rattle.fj_modes.specs.declared.specifiers.OpenSpec.{OpenSpec}
 use Rattle.fj_control.specs.Steps.{Given}
 use Rattle.fj_bay.specs.Jobs.{Job, resume}
@@ -22,17 +23,17 @@ use Rattle.fj_plain.specs.Statement.{Stated, Ending, executed, file_asked}
 use Rattle.fj_desk.specs.Core.{Connected, connected_at, unit_named}
 use Rattle.fj_desk.specs.Desks.{Desk, carry, outcome, resumed, log_length}
 use Rattle.fj_desk.specs.Doing.{Doing, Desked, acted, given, finishes, gives, awaits}
-use Rattle.fj_desk.specs.Acting.{own, instead, doing, if_numbered, opens, inquires, unit_at}
+use Rattle.fj_desk.specs.Acting.{own, instead, doing, if_numbered, opens_unit, inquires, unit_at}
 use Rattle.fj_desk.specs.Both.{Both}
 use Rattle.fj_desk.specs.Desking.{entries, told_core, acts, completed, goes_on, desk_step}
-use Rattle.fj_desk.specs.Giving.{numbered_jobs, open_jobs, look_jobs, own_jobs, closing_jobs, jobs_behind, resume_one, resumes, unless_prohibited, jobs, IsGiven, carry_all, GivesJobs}
+use Rattle.fj_desk.specs.Giving.{numbered_jobs, open_unit_jobs, look_jobs, own_jobs, closing_jobs, jobs_behind, resume_one, resumes, unless_prohibited, jobs, IsGiven, carry_all, GivesJobs}
 use Rattle.fj_desk.proofs.Apart.{Each}
 use Rattle.fj_desk.proofs.Seen.{Seen, named_same}
 use Rattle.fj_desk.proofs.Tied.{Tied, Free}
 use Rattle.fj_desk.proofs.Resuming.{tells_tied}
 use Rattle.fj_desk.proofs.Steps.{Caused, Freed, freed, prohibited_same}
 use Rattle.fj_desk.proofs.Given.{Gives, transfer_given, closes_given, closes_anyway_given, ends_given, moves_given, inquires_given, units_found}
-use Rattle.fj_desk.proofs.GivenByOpen.{opens_given}
+use Rattle.fj_desk.proofs.GivenByOpen.{opens_unit_given}
 
 -- ---- the desks then
 
@@ -83,14 +84,14 @@ resumes_given before after told (u ∷ us) (v ∷ vs) desks b f =
 -- ---- the statement's own jobs
 
 module _ (control : ℕ → List Given) (variables : List Variable) (line : ℕ) where
-  open_given : (p : Desked) (s : State) (o : Option ℕ) (spec : OpenSpec) → Tied p s → ((n : ℕ) → o ≡ Some n → Free n s.units)
-      → Gives p (if_numbered p.core o (λ n. opens p.core n spec (connected_at p.core.units n))) (numbered_jobs o (λ n. open_jobs s n spec (found s.units n)))
-  open_given p s None spec t free after is = tt
-  open_given p s (Some n) spec t free after is = opens_given p s n spec t (free n refl) after is
+  open_given : (p : Desked) (s : State) (u : UnitRef) (o : Option ℕ) (spec : OpenSpec) → Tied p s → ((n : ℕ) → o ≡ Some n → Free n s.units)
+      → Gives p (if_numbered p.core o (λ n. opens_unit p.core u n spec (connected_at p.core.units n))) (numbered_jobs o (λ n. open_unit_jobs s u n spec (found s.units n)))
+  open_given p s u None spec t free after is = tt
+  open_given p s u (Some n) spec t free after is = opens_unit_given p s u n spec t (free n refl) after is
 
   own_given : (p : Desked) (s : State) (st : Statement) → Tied p s → Freed st s.units → Gives p (own control variables line p.core st) (own_jobs control variables line s st)
   own_given p s (statement.Assign to from) t free after is = tt
-  own_given p s (statement.OpenUnit u spec iostat) t free after is = open_given p s (number_of u) spec t free after is
+  own_given p s (statement.OpenUnit u spec iostat) t free after is = open_given p s u (number_of u) spec t free after is
   own_given p s (statement.CloseUnit u keep iostat) t free after is = closes_given p s keep (number_of u) t after is
   own_given p s (statement.WaitFor u id iostat) t free after is = tt
   own_given p s (statement.Move how u iostat) t free after is = moves_given p s how (number_of u) t after is

@@ -23,7 +23,9 @@ use Rattle.fj_plain.specs.Connecting.{file_due, keeps_name, most_units}
 use Rattle.fj_desk.specs.Core.{Core, Connected, connected_at, inserted, without_connected}
 use Rattle.fj_desk.specs.Desks.{Desk, carry, condition_in, most_slots}
 use Rattle.fj_desk.specs.Doing.{Doing, Desked, acted, finishes}
-use Rattle.fj_desk.specs.Acting.{keeps, free_from, is_taken, attaches, connects_at, connects, opens_with, opens, changes, detaches}
+use Rattle.fj_statement.specs.declared.unit.UnitRef.{UnitRef}
+use Rattle.fj_statement.specs.Units.{is_outside}
+use Rattle.fj_desk.specs.Acting.{keeps, free_from, is_taken, attaches, connects_at, connects, opens_with, opens, opens_unit, changes, detaches}
 use Rattle.fj_desk.specs.Forgetting.{bay_at}
 use Rattle.fj_desk.proofs.Apart.{Each, Apart, Differs, differs_any, apart_split, apart_map, each_map, filter_each}
 use Rattle.fj_desk.proofs.Counting.{no_longer, no_shorter}
@@ -163,6 +165,7 @@ attached p s number slot c t new_us new_vs f =
           files = ap (without_file c.name) t.same.files;
           output = t.same.output;
           next = t.same.next;
+          new_unit = t.same.new_unit;
           tells = t.same.tells;
         };
         slots = record {
@@ -285,3 +288,22 @@ opens_tied p s number spec t free = by (connected_at p.core.units number) refl
             (if b then plainly.with_modes s at.it (mode.changed at.it.connection.modes spec) else plainly.opens_with s number spec (Some at.it) (settled spec))
         which true = changes_tied p s number u at spec t e
         which false = other_tied p s number spec u at t e free (settled spec)
+
+pub opens_unit_tied : (p : Desked) (s : State) (ref : UnitRef) (number : ℕ) (spec : OpenSpec) → Tied p s → Free number s.units
+    → ActTied (acted p.desks (opens_unit p.core ref number spec (connected_at p.core.units number))) (plainly.opens_unit s ref number spec (found s.units number))
+opens_unit_tied p s ref number spec t free = by (connected_at p.core.units number) refl (opens_tied p s number spec t free)
+  where
+    outside : (b : Bool) (d : Doing) (m : State × Condition) → ActTied (acted p.desks d) m → ActTied (acted p.desks (if b then finishes p.core (Error 3) else d)) (if b then (s, Error 3) else m)
+    outside true d m h = (refl, t)
+    outside false d m h = h
+
+    by : (o : Option Connected) → connected_at p.core.units number ≡ o → ActTied (acted p.desks (opens p.core number spec o)) (plainly.opens s number spec (found s.units number))
+        → ActTied (acted p.desks (opens_unit p.core ref number spec o)) (plainly.opens_unit s ref number spec (found s.units number))
+    by None e h =
+        let none = (not_at_unit p.desks p.core.units s.units number t.same.units e).0 in
+        subst (λ o. ActTied (acted p.desks (opens_unit p.core ref number spec None)) (plainly.opens_unit s ref number spec o)) (sym none)
+        (outside (is_outside ref) (opens p.core number spec None) (plainly.opens s number spec None) (subst (λ o. ActTied (acted p.desks (opens p.core number spec None)) (plainly.opens s number spec o)) none h))
+    by (Some u) e h =
+        let at : At p.desks s.units number u = at_unit p.desks p.core.units s.units number u t.same.units e in
+        subst (λ o. ActTied (acted p.desks (opens p.core number spec (Some u))) (plainly.opens_unit s ref number spec o)) (sym at.found_is)
+        (subst (λ o. ActTied (acted p.desks (opens p.core number spec (Some u))) (plainly.opens s number spec o)) at.found_is h)

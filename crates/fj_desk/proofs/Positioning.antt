@@ -8,10 +8,10 @@ use Rattle.fj_modes.specs.declared.modes.Modes.{Modes}
 use Rattle.fj_modes.specs.declared.asked.Question.{Question}
 use Rattle.fj_modes.specs.declared.asked.Question.TheVariants as question
 use Rattle.fj_modes.specs.declared.asked.Wanted.{Wanted}
-use Rattle.fj_modes.specs.declared.asked.Subject.{Subject}
-use Rattle.fj_modes.specs.declared.asked.Subject.TheVariants as subject
-use Rattle.fj_modes.specs.declared.unit.Motion.{Motion}
-use Rattle.fj_modes.specs.declared.unit.Motion.TheVariants as motion
+use Rattle.fj_statement.specs.declared.unit.Subject.{Subject}
+use Rattle.fj_statement.specs.declared.unit.Subject.TheVariants as subject
+use Rattle.fj_modes.specs.declared.motion.Motion.{Motion}
+use Rattle.fj_modes.specs.declared.motion.Motion.TheVariants as motion
 use Rattle.fj_connect.specs.Positions as position
 use Rattle.fj_connect.specs.declared.spot.Positioning.{Positioning}
 use Rattle.fj_connect.specs.declared.spot.Positioning.TheVariants as positioning

@@ -97,6 +97,7 @@ tells_tied variables line told p s t = record {
     files = t.same.files;
     output = t.same.output;
     next = t.same.next;
+    new_unit = t.same.new_unit;
     tells = ap (λ l. l ++ map (tell_of line) told) t.same.tells;
   };
   slots = record {

@@ -1,5 +1,5 @@
 -- The law for every deck: in sound states a halted unit has a pending transfer that tells of it.
-use Rattle.std.proofs.Common.{◌≡◌, ℕ, Bool, true, false, List, [], ◌∷◌, Option, Some, None, refl, ◌∙◌, inl, inr, ◌&&◌, ◌||◌}
+use Rattle.std.proofs.Common.{◌≡◌, ℕ, Bool, true, false, List, [], ◌∷◌, Option, Some, None, refl, sym, subst, ◌∙◌, inl, inr, ◌&&◌, ◌||◌}
 use Rattle.std.specs.Prelude.{◌==◌, if◌then◌else◌}
 use Rattle.std.specs.List.{All}
 use Rattle.std.proofs.lemmas.List.Elements.{All-head, All-tail}
@@ -12,15 +12,15 @@ use Rattle.fj_plain.specs.Statement.{stated}
 use Rattle.fj_plain.specs.Reaching.{cause_of}
 use Rattle.fj_plain.proofs.Sound.{Sound, sound_start}
 use Rattle.fj_plain.proofs.Reached.{sound_step}
-use Rattle.fj_desk.specs.Desking.{over_desks, fresh}
+use Rattle.fj_desk.specs.Desking.{over_desks, desk_step, fresh}
 use Rattle.fj_desk.specs.Forgetting as law
-use Rattle.fj_desk.specs.Giving.{JobsAreGiven}
+use Rattle.fj_desk.specs.Giving.{GivesJobs, JobsAreGiven, jobs}
 use Rattle.fj_desk.proofs.Apart.{Each}
 use Rattle.fj_desk.proofs.Steps.{Caused}
 use Rattle.fj_desk.proofs.Forgetting as forgetting
 use Rattle.fj_desk.proofs.Forgetting.{start_tied}
 use Rattle.fj_desk.proofs.Logged.{step_given}
-use Rattle.fj_plain.specs.Statement.{executed}
+use Rattle.fj_plain.specs.Statement.{begun_in, executed}
 
 cause_tells : (book : List Entry) (number : ℕ) (cause : Condition) → cause_of book number ≡ Some cause → tells_cause book number ≡ true
 cause_tells [] number cause e = cc
@@ -57,4 +57,7 @@ results_agree variables statements files =
 pub jobs_are_given : JobsAreGiven
 jobs_are_given variables sts st files =
     let reached = forgetting.reached_tied Sound sound_caused sound_step variables sts (fresh variables files) (start variables files) (start_tied variables files) (sound_start variables files) in
-    step_given variables st (over_desks variables sts (fresh variables files)).desked (executed variables sts (start variables files)).state reached.0 (sound_caused (executed variables sts (start variables files)).state reached.1)
+    let p = (over_desks variables sts (fresh variables files)).desked in
+    let s = (executed variables sts (start variables files)).state in
+    subst (λ y. GivesJobs p (desk_step variables y p).0 (jobs variables (begun_in s st) s)) (sym (forgetting.begun_same p s st reached.0))
+    (step_given variables (begun_in s st) p s reached.0 (sound_caused s reached.1))

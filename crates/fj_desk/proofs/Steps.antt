@@ -5,8 +5,8 @@ use Rattle.fj_value.specs.Condition.{code_of}
 use Rattle.fj_value.specs.declared.condition.Condition.{Condition}
 use Rattle.fj_value.specs.declared.condition.Condition.TheVariants.{Fine, EndOfFile, EndOfRecord, Error}
 use Rattle.fj_value.specs.declared.condition.Rule.{Rule}
-use Rattle.fj_modes.specs.declared.asked.Subject.{Subject}
-use Rattle.fj_modes.specs.declared.asked.Subject.TheVariants as subject
+use Rattle.fj_statement.specs.declared.unit.Subject.{Subject}
+use Rattle.fj_statement.specs.declared.unit.Subject.TheVariants as subject
 use Rattle.fj_control.specs.Steps.{Given}
 use Rattle.fj_bay.specs.Halt.{halts}
 use Rattle.fj_statement.specs.declared.deck.Variable.{Variable}
@@ -15,7 +15,7 @@ use Rattle.fj_statement.specs.declared.statement.Statement.TheVariants as statem
 use Rattle.fj_store.specs.Variables.{Variables}
 use Rattle.fj_plain.specs.Items.{operand_places, value_of}
 use Rattle.fj_book.specs.Prohibitions.{prohibited}
-use Rattle.fj_plain.specs.Needs.{need, need_by, inquiry_need, number_of, unit_about, unit_of_file, holders}
+use Rattle.fj_plain.specs.Needs.{need, need_by, inquiry_need, number_of, subject_places, unit_about, unit_of_file, holders}
 use Rattle.fj_plain.specs.State.{State, Entry, found}
 use Rattle.fj_plain.specs.State as plain
 use Rattle.fj_plain.specs.Telling.{waited, waited_in, of_unit, condition_of, tells_cause, after_tells, is_asynchronous}
@@ -23,20 +23,21 @@ use Rattle.fj_plain.specs.Connecting as plainly
 use Rattle.fj_modes.specs.declared.specifiers.OpenSpec.{OpenSpec}
 use Rattle.fj_plain.specs.Transfers.{with_number}
 use Rattle.fj_plain.specs.Statement as meant
-use Rattle.fj_plain.specs.Statement.{Stated, Ending, assigned, iostat_of, ends, step}
+use Rattle.fj_plain.specs.Statement.{Stated, Ending, assigned, iostat_of, new_place, next_new, with_new_unit, ends, step}
 use Rattle.fj_desk.specs.Core.{Connected, connected_at, unit_named, pending_holders}
 use Rattle.fj_desk.specs.Desks.{Desk, resumed}
 use Rattle.fj_desk.specs.Doing.{Desked, acted}
-use Rattle.fj_desk.specs.Acting.{own, instead, doing, if_numbered, opens}
+use Rattle.fj_statement.specs.declared.unit.UnitRef.{UnitRef}
+use Rattle.fj_desk.specs.Acting.{own, instead, doing, if_numbered, opens_unit}
 use Rattle.fj_desk.specs.Desking.{entries, told_core, acts, completed, goes_on, desk_step}
 use Rattle.fj_desk.proofs.Apart.{Each, each_map, each_imp}
 use Rattle.fj_desk.proofs.Seen.{Seen, named_same}
-use Rattle.fj_desk.proofs.Tied.{Tied, ActTied, Free, with_vars, holders_same}
+use Rattle.fj_desk.proofs.Tied.{Tied, ActTied, Free, with_new, with_vars, holders_same}
 use Rattle.fj_desk.proofs.Resuming.{without_halt, tells_tied}
 use Rattle.fj_desk.proofs.Transferring.{transfer_tied, nothing_tied}
 use Rattle.fj_desk.proofs.Positioning.{moves_tied, inquires_tied}
 use Rattle.fj_desk.proofs.Closing.{closes_tied, closes_anyway_tied, ends_tied, AllFree}
-use Rattle.fj_desk.proofs.Opening.{opens_tied}
+use Rattle.fj_desk.proofs.Opening.{opens_unit_tied}
 
 -- ---- which units are not halted once a statement's transfers were told
 
@@ -115,10 +116,10 @@ freed book vars statement.End vs h = free_all book vs h
 -- ---- the statement's own action
 
 module _ (control : ℕ → List Given) (variables : List Variable) (line : ℕ) where
-  open_tied : (p : Desked) (s : State) (o : Option ℕ) (spec : OpenSpec) → Tied p s → ((n : ℕ) → o ≡ Some n → Free n s.units)
-      → ActTied (acted p.desks (if_numbered p.core o (λ n. opens p.core n spec (connected_at p.core.units n)))) (meant.if_numbered s o (λ n. plainly.opens s n spec (found s.units n)))
-  open_tied p s None spec t free = (refl, t)
-  open_tied p s (Some n) spec t free = opens_tied p s n spec t (free n refl)
+  open_tied : (p : Desked) (s : State) (u : UnitRef) (o : Option ℕ) (spec : OpenSpec) → Tied p s → ((n : ℕ) → o ≡ Some n → Free n s.units)
+      → ActTied (acted p.desks (if_numbered p.core o (λ n. opens_unit p.core u n spec (connected_at p.core.units n)))) (meant.if_numbered s o (λ n. plainly.opens_unit s u n spec (found s.units n)))
+  open_tied p s u None spec t free = (refl, t)
+  open_tied p s u (Some n) spec t free = opens_unit_tied p s u n spec t (free n refl)
 
   own_tied : (p : Desked) (s : State) (st : Statement) → Tied p s → Freed st s.units → ActTied (acted p.desks (own control variables line p.core st)) (meant.own control variables s st)
   own_tied p s (statement.Assign to from) t free = (
@@ -126,12 +127,12 @@ module _ (control : ℕ → List Given) (variables : List Variable) (line : ℕ)
     with_vars p s (assigned variables (operand_places variables to) (value_of p.core.vars from) p.core.vars) (assigned variables (operand_places variables to) (value_of s.vars from) s.vars)
         (ap (λ v. assigned variables (operand_places variables to) (value_of v from) v) t.same.vars) t,
   )
-  own_tied p s (statement.OpenUnit u spec iostat) t free = open_tied p s (number_of u) spec t free
+  own_tied p s (statement.OpenUnit u spec iostat) t free = open_tied p s u (number_of u) spec t free
   own_tied p s (statement.CloseUnit u keep iostat) t free = closes_tied p s keep (number_of u) t free
   own_tied p s (statement.WaitFor u id iostat) t free = (refl, t)
   own_tied p s (statement.Move how u iostat) t free = moves_tied p s how (number_of u) t
   own_tied p s (statement.Inquire about asked id iostat) t free = inquires_tied variables p s about asked id t
-  own_tied p s (statement.Transfer tr) t free = transfer_tied control variables line p s tr t (λ q n e. free q n (ap number_of e))
+  own_tied p s (statement.Transfer tr) t free = transfer_tied control variables line p s tr t free
   own_tied p s statement.End t free = ends_tied p s Fine t free
 
   instead_tied : (p : Desked) (s : State) (st : Statement) (condition : Condition) → Tied p s → Freed st s.units → ActTied (acted p.desks (instead variables p.core st condition)) (meant.instead variables s st, condition)
@@ -157,9 +158,15 @@ module _ (control : ℕ → List Given) (variables : List Variable) (line : ℕ)
   completed_tied : (st : Statement) (x : Desked × Condition) (y : State × Condition) → ActTied x y → StepTied (completed variables line st x) (meant.completed variables line st y)
   completed_tied st x y h = (
     ap (ends line st) h.0,
-    with_vars x.0 y.0 (with_number variables (iostat_of st) (code_of x.1) x.0.core.vars) (with_number variables (iostat_of st) (code_of y.1) y.0.vars)
-        (ap (λ c. with_number variables (iostat_of st) (code_of c) x.0.core.vars) h.0 ∙ ap (with_number variables (iostat_of st) (code_of y.1)) h.1.same.vars) h.1,
+    with_vars (record { core = record (x.0.core) { new_unit = next_new (new_place st x.1) x.0.core.new_unit }; desks = x.0.desks }) (record (y.0) { new_unit = next_new (new_place st y.1) y.0.new_unit })
+        (defined_vars x.1 x.0.core.new_unit x.0.core.vars) (defined_vars y.1 y.0.new_unit y.0.vars)
+        (ap (λ c. defined_vars c x.0.core.new_unit x.0.core.vars) h.0 ∙ ap (λ n. defined_vars y.1 n x.0.core.vars) h.1.same.new_unit ∙ ap (defined_vars y.1 y.0.new_unit) h.1.same.vars)
+        (with_new x.0 y.0 (next_new (new_place st x.1) x.0.core.new_unit) (next_new (new_place st y.1) y.0.new_unit)
+        (ap (λ c. next_new (new_place st c) x.0.core.new_unit) h.0 ∙ ap (next_new (new_place st y.1)) h.1.same.new_unit) h.1),
   )
+    where
+      defined_vars : Condition → ℕ → Variables → Variables
+      defined_vars condition code vars = with_number variables (iostat_of st) (code_of condition) (with_new_unit variables st condition code vars)
 
   acts_tied : (p : Desked) (s : State) (st : Statement) → Tied p s → Each (Caused s.book) s.units
       → ActTied (acts control variables line st p (waited s st)) (meant.acts control variables (after_tells variables line (waited s st) s) st (condition_of (waited s st)))
@@ -185,7 +192,7 @@ need_same variables vars desks us vs (statement.OpenUnit u spec iostat) b = refl
 need_same variables vars desks us vs (statement.CloseUnit u keep iostat) b = refl
 need_same variables vars desks us vs (statement.WaitFor u id iostat) b = refl
 need_same variables vars desks us vs (statement.Move how u iostat) b = refl
-need_same variables vars desks us vs (statement.Inquire about asked id iostat) b = ap (λ n. inquiry_need variables vars n asked id iostat) (by about)
+need_same variables vars desks us vs (statement.Inquire about asked id iostat) b = ap (λ n. inquiry_need variables vars n (subject_places about) asked id iostat) (by about)
   where
     by : (about : Subject) → unit_about (unit_named us) about ≡ unit_about (unit_of_file vs) about
     by (subject.Unit ref) = refl

@@ -76,14 +76,22 @@ holders_same p s h = holders_with p.desks p.core.book ∙ ap holders h.book
 
 pub with_vars : (p : Desked) (s : State) (v w : Variables) → v ≡ w → Tied p s → Tied (record { core = record (p.core) { vars = v }; desks = p.desks }) (record s { vars = w })
 with_vars p s v w e t = record {
-  same = record { vars = e; book = t.same.book; units = t.same.units; files = t.same.files; output = t.same.output; next = t.same.next; tells = t.same.tells };
+  same = record { vars = e; book = t.same.book; units = t.same.units; files = t.same.files; output = t.same.output; next = t.same.next; new_unit = t.same.new_unit; tells = t.same.tells };
+  slots = record { apart = t.slots.apart; idle = t.slots.idle; sixteen = t.slots.sixteen; placed = t.slots.placed };
+  numbers = t.numbers;
+}
+
+-- or of the number that NEWUNIT= gives next
+pub with_new : (p : Desked) (s : State) (m n : ℕ) → m ≡ n → Tied p s → Tied (record { core = record (p.core) { new_unit = m }; desks = p.desks }) (record s { new_unit = n })
+with_new p s m n e t = record {
+  same = record { vars = t.same.vars; book = t.same.book; units = t.same.units; files = t.same.files; output = t.same.output; next = t.same.next; new_unit = e; tells = t.same.tells };
   slots = record { apart = t.slots.apart; idle = t.slots.idle; sixteen = t.slots.sixteen; placed = t.slots.placed };
   numbers = t.numbers;
 }
 
 pub with_output : (p : Desked) (s : State) (v w : Output) → v ≡ w → Tied p s → Tied (record { core = record (p.core) { output = v }; desks = p.desks }) (record s { output = w })
 with_output p s v w e t = record {
-  same = record { vars = t.same.vars; book = t.same.book; units = t.same.units; files = t.same.files; output = e; next = t.same.next; tells = t.same.tells };
+  same = record { vars = t.same.vars; book = t.same.book; units = t.same.units; files = t.same.files; output = e; next = t.same.next; new_unit = t.same.new_unit; tells = t.same.tells };
   slots = record { apart = t.slots.apart; idle = t.slots.idle; sixteen = t.slots.sixteen; placed = t.slots.placed };
   numbers = t.numbers;
 }
@@ -94,7 +102,7 @@ with_output p s v w e t = record {
 pub moved_desks : (p : Desked) (s : State) (behind : List Desk) (vs : List plain.Unit) → Tied p s → Later p.desks behind → Seen behind p.core.units vs → Idle behind p.core.units
     → Apart (λ (v : plain.Unit). v.number) vs → Tied (record { core = p.core; desks = behind }) (record s { units = vs })
 moved_desks p s behind vs t l seen idle numbers = record {
-  same = record { vars = t.same.vars; book = entries_later p.desks behind p.core.book l t.slots.placed ∙ t.same.book; units = seen; files = t.same.files; output = t.same.output; next = t.same.next; tells = t.same.tells };
+  same = record { vars = t.same.vars; book = entries_later p.desks behind p.core.book l t.slots.placed ∙ t.same.book; units = seen; files = t.same.files; output = t.same.output; next = t.same.next; new_unit = t.same.new_unit; tells = t.same.tells };
   slots = record { apart = t.slots.apart; idle = idle; sixteen = l.long ∙ t.slots.sixteen; placed = placed_later p.desks behind p.core.book l t.slots.placed };
   numbers = numbers;
 }

@@ -17,8 +17,8 @@ use Rattle.fj_bay.proofs.Controlled.{control_same}
 use Rattle.fj_bay.proofs.Keeping.{Kept, kept_same, transfer_kept}
 use Rattle.fj_statement.specs.declared.deck.Variable.{Variable}
 use Rattle.fj_statement.specs.declared.statement.Transfer.{Transfer}
-use Rattle.fj_modes.specs.declared.unit.UnitRef.{UnitRef}
-use Rattle.fj_modes.specs.declared.unit.UnitRef.TheVariants as unit
+use Rattle.fj_statement.specs.declared.unit.UnitRef.{UnitRef}
+use Rattle.fj_statement.specs.declared.unit.UnitRef.TheVariants as unit
 use Rattle.fj_store.specs.Variables.{Variables}
 use Rattle.fj_plain.specs.State.{State, Entry, found, with_unit}
 use Rattle.fj_plain.specs.State as plain
@@ -28,6 +28,7 @@ use Rattle.fj_plain.specs.Transfers.{moved_in, spec_in, layout_of, refusal, with
 use Rattle.fj_desk.specs.Core.{Core, Pending, Connected, connected_at}
 use Rattle.fj_desk.specs.Desks.{Desk, carry, outcome, brought_by, entry_with, entry_of, log_length}
 use Rattle.fj_desk.specs.Doing.{Desked, acted, finishes, gives, awaits}
+use Rattle.fj_statement.specs.Units.{number_of}
 use Rattle.fj_desk.specs.Acting.{moving_of, pending_of, with_items_out, with_pending, carried_out, refused, unless_refused, on_unit, on_star, transfer_at}
 use Rattle.fj_desk.specs.Forgetting.{bay_at}
 use Rattle.fj_desk.proofs.Apart.{each_append}
@@ -86,6 +87,7 @@ module _ (control : ℕ → List Given) (variables : List Variable) (line : ℕ)
         files = ties.same.files;
         output = ties.same.output;
         next = ap (λ n. n + 1) ties.same.next;
+        new_unit = ties.same.new_unit;
         tells = ties.same.tells;
       };
       slots = record {
@@ -258,12 +260,14 @@ module _ (control : ℕ → List Given) (variables : List Variable) (line : ℕ)
       prints : printed p.core.output p.core.vars ≡ printed s.output s.vars
       prints = ap (λ x. printed x p.core.vars) ties.same.output ∙ ap (λ v. printed s.output v) ties.same.vars
 
-  at_tied : (p : Desked) (s : State) (t : Transfer) (moved : Moved) (ref : UnitRef) → Tied p s → (is_asynchronous t ≡ false → (n : ℕ) → ref ≡ unit.Number n → Free n s.units)
+  at_tied : (p : Desked) (s : State) (t : Transfer) (moved : Moved) (ref : UnitRef) → Tied p s → (is_asynchronous t ≡ false → (n : ℕ) → number_of ref ≡ Some n → Free n s.units)
       → ActTied (acted p.desks (transfer_at control variables line p.core t moved ref)) (plainly.transfer_at control variables s t moved ref)
   at_tied p s t moved unit.Star ties free = star_tied p s t moved ties
   at_tied p s t moved (unit.Number n) ties free = unit_tied p s t moved n ties (λ q. free q n refl) (connected_at p.core.units n) refl
+  at_tied p s t moved (unit.Held place n) ties free = unit_tied p s t moved n ties (λ q. free q n refl) (connected_at p.core.units n) refl
+  at_tied p s t moved (unit.New place n) ties free = unit_tied p s t moved n ties (λ q. free q n refl) (connected_at p.core.units n) refl
 
-  pub transfer_tied : (p : Desked) (s : State) (t : Transfer) → Tied p s → (is_asynchronous t ≡ false → (n : ℕ) → t.unit ≡ unit.Number n → Free n s.units)
+  pub transfer_tied : (p : Desked) (s : State) (t : Transfer) → Tied p s → (is_asynchronous t ≡ false → (n : ℕ) → number_of t.unit ≡ Some n → Free n s.units)
       → ActTied (acted p.desks (transfer_at control variables line p.core t (moved_in variables p.core.vars t) t.unit)) (plainly.reads_or_writes control variables s t)
   transfer_tied p s t ties free =
       subst (λ v. ActTied (acted p.desks (transfer_at control variables line p.core t (moved_in variables v t) t.unit)) (plainly.reads_or_writes control variables s t)) (sym ties.same.vars)

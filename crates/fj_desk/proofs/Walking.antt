@@ -7,7 +7,8 @@ use Rattle.fj_modes.specs.Modes.{settled}
 use Rattle.fj_modes.specs.Modes as mode
 use Rattle.fj_modes.specs.declared.modes.Modes.{Modes}
 use Rattle.fj_modes.specs.declared.specifiers.OpenSpec.{OpenSpec}
-use Rattle.fj_modes.specs.declared.unit.UnitRef.{UnitRef}
+use Rattle.fj_statement.specs.declared.unit.UnitRef.{UnitRef}
+use Rattle.fj_statement.specs.Units.{is_outside}
 use Rattle.fj_value.specs.declared.place.Place.{Place}
 use Rattle.fj_list.specs.declared.moved.Moved.{Moved}
 use Rattle.fj_control.specs.Steps.{Given}
@@ -24,7 +25,7 @@ use Rattle.fj_plain.specs.Connecting.{file_due, keeps_name}
 use Rattle.fj_desk.specs.Core.{Core, Connected, connected_at}
 use Rattle.fj_desk.specs.Desks.{most_slots}
 use Rattle.fj_desk.specs.Doing.{Doing, finishes}
-use Rattle.fj_desk.specs.Acting.{transferred, refused, unless_refused, on_unit, keeps, detaches, closes, closes_anyway, all_closed, free_from, changes, is_taken, attaches, connects_at, connects, closes_first, opens_with, opens, if_numbered, unit_at, own, instead, doing}
+use Rattle.fj_desk.specs.Acting.{transferred, refused, unless_refused, on_unit, keeps, detaches, closes, closes_anyway, all_closed, free_from, changes, is_taken, attaches, connects_at, connects, closes_first, opens_with, opens_unit, if_numbered, unit_at, own, instead, doing}
 use Rattle.fj_desk.proofs.Opening.{FreeSlot, free_found}
 
 -- a fact of whatever it does
@@ -70,13 +71,13 @@ module _ (P : Doing → Type 0) where
       by (Some slot) e = opened slot (free_found core.units 0 most_slots slot e) (opened_file (core.files (file_due spec number)) (file_due spec number) spec modes) refl
 
   -- nothing is done, or other modes, or a new connection, or one for another
-  pub open_by : (core : Core) (spec : OpenSpec) (number : Option ℕ) → ((condition : Condition) → P (finishes core condition))
+  pub open_by : (core : Core) (ref : UnitRef) (spec : OpenSpec) (number : Option ℕ) → ((condition : Condition) → P (finishes core condition))
       → ((n : ℕ) (u : Connected) (modes : Modes) → number ≡ Some n → connected_at core.units n ≡ Some u → P (changes core u (Ok modes)))
       → ((n : ℕ) (modes : Modes) → number ≡ Some n → connected_at core.units n ≡ None → P (connects n spec modes core))
       → ((n : ℕ) (u : Connected) (modes : Modes) → number ≡ Some n → connected_at core.units n ≡ Some u → keeps_name u.name spec spec.file ≡ false → P (detaches core u (keeps u) (connects n spec modes)))
-      → P (if_numbered core number (λ n. opens core n spec (connected_at core.units n)))
-  open_by core spec None ends other new first = ends (Error 1)
-  open_by core spec (Some n) ends other new first = by (connected_at core.units n) refl
+      → P (if_numbered core number (λ n. opens_unit core ref n spec (connected_at core.units n)))
+  open_by core ref spec None ends other new first = ends (Error 1)
+  open_by core ref spec (Some n) ends other new first = by (connected_at core.units n) refl
     where
       opened : (old : Option Connected) (r : Result Modes Condition) → ((modes : Modes) → P (closes_first core old (connects n spec modes))) → P (opens_with core n spec old r)
       opened old (Err condition) f = ends condition
@@ -90,8 +91,8 @@ module _ (P : Doing → Type 0) where
       same u e true is = changed u e (mode.changed u.modes spec)
       same u e false is = opened (Some u) (settled spec) (λ modes. first n u modes refl e is)
 
-      by : (o : Option Connected) → connected_at core.units n ≡ o → P (opens core n spec o)
-      by None e = opened None (settled spec) (λ modes. new n modes refl e)
+      by : (o : Option Connected) → connected_at core.units n ≡ o → P (opens_unit core ref n spec o)
+      by None e = either (is_outside ref) _ _ (ends (Error 3)) (opened None (settled spec) (λ modes. new n modes refl e))
       by (Some u) e = same u e (keeps_name u.name spec spec.file) refl
 
   -- its own, or what is done in its place where a condition of a transfer was told

@@ -11,10 +11,11 @@ use Rattle.fj_modes.specs.declared.specifiers.OpenSpec.{OpenSpec}
 use Rattle.fj_modes.specs.declared.asked.Question.{Question}
 use Rattle.fj_modes.specs.declared.asked.Question.TheVariants as question
 use Rattle.fj_modes.specs.declared.asked.Wanted.{Wanted}
-use Rattle.fj_modes.specs.declared.unit.Motion.{Motion}
-use Rattle.fj_modes.specs.declared.unit.Motion.TheVariants as motion
-use Rattle.fj_modes.specs.declared.unit.UnitRef.{UnitRef}
-use Rattle.fj_modes.specs.declared.unit.UnitRef.TheVariants as unit
+use Rattle.fj_modes.specs.declared.motion.Motion.{Motion}
+use Rattle.fj_modes.specs.declared.motion.Motion.TheVariants as motion
+use Rattle.fj_statement.specs.declared.unit.UnitRef.{UnitRef}
+use Rattle.fj_statement.specs.declared.unit.UnitRef.TheVariants as unit
+use Rattle.fj_statement.specs.Units.{is_outside}
 use Rattle.fj_list.specs.declared.moved.Moved.{Moved}
 use Rattle.fj_control.specs.Steps.{Given}
 use Rattle.fj_connect.specs.Connection.{Connection}
@@ -101,7 +102,7 @@ on_star control variables core t moved =
 
 abbrev pub transfer_at : (ℕ → List Given) → List Variable → ℕ → Core → Transfer → Moved → UnitRef → Doing
 transfer_at control variables line core t moved unit.Star = on_star control variables core t moved
-transfer_at control variables line core t moved (unit.Number n) = on_unit control variables line core t moved (connected_at core.units n)
+transfer_at control variables line core t moved u = on_unit control variables line core t moved (option_and_then (connected_at core.units) (number_of u))
 
 -- ---- CLOSE
 
@@ -191,6 +192,11 @@ opens core number spec None = opens_with core number spec None (settled spec)
 opens core number spec (Some u) = if keeps_name u.name spec spec.file then changes core u (mode.changed u.modes spec)
     else opens_with core number spec (Some u) (settled spec)
 
+-- a unit that is not connected is not connected either where its number is not one from 0 to 2,147,483,647 (3)
+abbrev pub opens_unit : Core → UnitRef → ℕ → OpenSpec → Option Connected → Doing
+opens_unit core u number spec None = if is_outside u then finishes core (Error 3) else opens core number spec None
+opens_unit core u number spec (Some old) = opens core number spec (Some old)
+
 -- ---- BACKSPACE, REWIND, ENDFILE, FLUSH
 
 abbrev pub job_of : Motion → Job
@@ -237,7 +243,7 @@ unit_at core number = option_and_then (connected_at core.units) number
 abbrev pub own : (ℕ → List Given) → List Variable → ℕ → Core → Statement → Doing
 own control variables line core (statement.Assign to from) =
     finishes (record core { vars = assigned variables (operand_places variables to) (value_of core.vars from) core.vars }) Fine
-own control variables line core (statement.OpenUnit u spec iostat) = if_numbered core (number_of u) (λ n. opens core n spec (connected_at core.units n))
+own control variables line core (statement.OpenUnit u spec iostat) = if_numbered core (number_of u) (λ n. opens_unit core u n spec (connected_at core.units n))
 own control variables line core (statement.CloseUnit u keep iostat) = closes core keep (unit_at core (number_of u))
 own control variables line core (statement.WaitFor u id iostat) = finishes core Fine
 own control variables line core (statement.Move how u iostat) = moves core how (unit_at core (number_of u))

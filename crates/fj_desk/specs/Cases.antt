@@ -2,10 +2,10 @@
 use Rattle.std.specs.Prelude.{◌≡◌, ℕ, pos, negsuc, true, false, List, [], ◌∷◌, map, codes, Option, Some, None, slice_get}
 use Rattle.fj_value.specs.declared.value.Value.TheVariants.{Int, Undefined}
 use Rattle.fj_value.specs.declared.condition.Condition.TheVariants.{Fine, EndOfFile}
-use Rattle.fj_modes.specs.declared.unit.Motion.TheVariants.{Rewind}
+use Rattle.fj_modes.specs.declared.motion.Motion.TheVariants.{Rewind}
 use Rattle.fj_modes.specs.declared.asked.Question.TheVariants.{Size, Opened}
-use Rattle.fj_modes.specs.declared.asked.Subject.TheVariants as subject
-use Rattle.fj_modes.specs.declared.unit.UnitRef.TheVariants as unit
+use Rattle.fj_statement.specs.declared.unit.Subject.TheVariants as subject
+use Rattle.fj_statement.specs.declared.unit.UnitRef.TheVariants as unit
 use Rattle.fj_value.specs.declared.kind.Kind.TheVariants.{Int4}
 use Rattle.fj_statement.specs.declared.deck.Variable.{Variable}
 use Rattle.fj_statement.specs.declared.statement.Control.TheVariants.{Listed}

@@ -19,7 +19,7 @@ pub record Pending : Type 0 where
   pub slot : ℕ
   pub number : ℕ
 
--- a connected unit: its connection is at its slot
+-- a connected unit, by the code of its number: its connection is at its slot
 pub record Connected : Type 0 where
   pub number : ℕ
   pub slot : ℕ
@@ -37,6 +37,8 @@ pub record Core : Type 0 where
   pub output : Output
   -- the next identifier
   pub next : ℕ
+  -- the code of the number that NEWUNIT= gives next
+  pub new_unit : ℕ
   pub tells : List Tell
 
 -- ---- units

@@ -14,7 +14,7 @@ use Rattle.fj_plain.specs.State.{State, Files, Entry, start}
 use Rattle.fj_plain.specs.State as plain
 use Rattle.fj_plain.specs.Telling.{waited_in, condition_of, with_inputs, tells_id, tell_of}
 use Rattle.fj_plain.specs.Transfers.{with_number}
-use Rattle.fj_plain.specs.Statement.{Stated, stated, Ending, prohibition, iostat_of, ends, Result}
+use Rattle.fj_plain.specs.Statement.{Stated, stated, Ending, begins, prohibition, iostat_of, new_place, next_new, with_new_unit, ends, Result}
 use Rattle.fj_desk.specs.Core.{Core, Pending, Connected, pending_holders, unit_named}
 use Rattle.fj_desk.specs.Desks.{Desk, entry_of, resumed, fresh_desks}
 use Rattle.fj_desk.specs.Doing.{Desked, acted}
@@ -37,15 +37,25 @@ abbrev pub acts : (ℕ → List Given) → List Variable → ℕ → Statement �
 acts control variables line st p told =
     acted (resumed told p.core.units p.desks) (doing control variables line (told_core variables line told p.core) st (condition_of told))
 
+abbrev pub defined : List Variable → Statement → Condition → Core → Core
+defined variables st condition core = record core {
+  vars = with_number variables (iostat_of st) (code_of condition) (with_new_unit variables st condition core.new_unit core.vars);
+  new_unit = next_new (new_place st condition) core.new_unit;
+}
+
 abbrev pub completed : List Variable → ℕ → Statement → Desked × Condition → Desked × Option Ending
 completed variables line st done = (
-  record { core = record (done.0.core) { vars = with_number variables (iostat_of st) (code_of done.1) done.0.core.vars }; desks = done.0.desks },
+  record { core = defined variables st done.1 done.0.core; desks = done.0.desks },
   ends line st done.1,
 )
 
 abbrev pub goes_on : (ℕ → List Given) → List Variable → ℕ → Statement → Desked → Option Rule → Desked × Option Ending
 goes_on control variables line st p (Some rule) = (p, Some (prohibition line rule))
 goes_on control variables line st p None = completed variables line st (acts control variables line st p (waited_in (entries p) p.core.vars st))
+
+-- a statement as it begins
+abbrev pub begun_at : Desked → Stated → Stated
+begun_at p st = begins p.core.vars p.core.new_unit st
 
 unfoldable pub desk_step : List Variable → Stated → Desked → Desked × Option Ending
 desk_step variables st p =
@@ -60,7 +70,7 @@ pub record DesksRan : Type 0 where
 abbrev pub over_desks : List Variable → List Stated → Desked → DesksRan
 over_desks variables [] p = record { desked = p; ending = None }
 over_desks variables (st ∷ more) p =
-    let done = desk_step variables st p in
+    let done = desk_step variables (begun_at p st) p in
     elim done.1 as (λ _. DesksRan) [
       | None ↦ over_desks variables more done.0
       | Some e ↦ record { desked = done.0; ending = Some e }
@@ -68,7 +78,7 @@ over_desks variables (st ∷ more) p =
 
 abbrev pub fresh : List Variable → Files → Desked
 fresh variables files = let s = start variables files in
-    record { core = record { vars = s.vars; book = []; units = []; files = s.files; output = s.output; next = s.next; tells = s.tells }; desks = fresh_desks }
+    record { core = record { vars = s.vars; book = []; units = []; files = s.files; output = s.output; next = s.next; new_unit = s.new_unit; tells = s.tells }; desks = fresh_desks }
 
 -- at the end the files of the connections are among the others again
 abbrev pub connection_at : Option Desk → Option Connection

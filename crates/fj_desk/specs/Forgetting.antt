@@ -31,6 +31,7 @@ pub record Same (p : Desked) (s : State) : Type 0 where
   pub files : p.core.files ≡ s.files
   pub output : p.core.output ≡ s.output
   pub next : p.core.next ≡ s.next
+  pub new_unit : p.core.new_unit ≡ s.new_unit
   pub tells : p.core.tells ≡ s.tells
 
 pub record Forgets (ran : DesksRan) (meant : Ran) : Type 0 where

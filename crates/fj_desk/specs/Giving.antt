@@ -8,7 +8,7 @@ use Rattle.fj_modes.specs.Modes as mode
 use Rattle.fj_modes.specs.declared.modes.Modes.{Modes}
 use Rattle.fj_modes.specs.declared.specifiers.OpenSpec.{OpenSpec}
 use Rattle.fj_modes.specs.declared.asked.Wanted.{Wanted}
-use Rattle.fj_modes.specs.declared.unit.Motion.{Motion}
+use Rattle.fj_modes.specs.declared.motion.Motion.{Motion}
 use Rattle.fj_control.specs.Steps.{Given}
 use Rattle.fj_connect.specs.Connection.{Connection}
 use Rattle.fj_connect.specs.Opening.{opened_file}
@@ -19,20 +19,22 @@ use Rattle.fj_statement.specs.declared.deck.Variable.{Variable}
 use Rattle.fj_statement.specs.declared.statement.Statement.{Statement}
 use Rattle.fj_statement.specs.declared.statement.Statement.TheVariants as statement
 use Rattle.fj_statement.specs.declared.statement.Transfer.{Transfer}
+use Rattle.fj_statement.specs.declared.unit.UnitRef.{UnitRef}
+use Rattle.fj_statement.specs.Units.{is_outside}
 use Rattle.fj_book.specs.Prohibitions.{prohibited}
 use Rattle.fj_plain.specs.Needs.{number_of, need, holders, unit_asked}
 use Rattle.fj_plain.specs.State.{State, Files, Unit, Entry, found, is_fine, start}
 use Rattle.fj_plain.specs.Telling.{waited, condition_of, tells_cause, after_tells, is_asynchronous}
 use Rattle.fj_plain.specs.Transfers.{moved_by, spec_of, layout_of, refusal}
 use Rattle.fj_plain.specs.Connecting.{file_due, keeps_file, is_taken, most_units, without_old}
-use Rattle.fj_plain.specs.Statement.{Stated, executed, unit_at}
+use Rattle.fj_plain.specs.Statement.{Stated, begun_in, executed, unit_at}
 use Rattle.fj_plain.specs.Reaching.{reached}
 use Rattle.fj_desk.specs.Core.{Connected, connected_at}
 use Rattle.fj_desk.specs.Desks.{Desk, carry}
 use Rattle.fj_desk.specs.Acting.{moving_of, job_of, asks_connection}
 use Rattle.fj_desk.specs.Both.{Both}
 use Rattle.fj_desk.specs.Doing.{Desked}
-use Rattle.fj_desk.specs.Desking.{over_desks, desk_step, fresh}
+use Rattle.fj_desk.specs.Desking.{begun_at, over_desks, desk_step, fresh}
 
 -- a job, with the number of its unit
 abbrev pub Jobs : Type 0
@@ -90,6 +92,10 @@ abbrev pub open_jobs : State → ℕ → OpenSpec → Option Unit → Jobs
 open_jobs s number spec None = opening_jobs s number spec None (settled spec)
 open_jobs s number spec (Some u) = if keeps_file u spec spec.file then mode_jobs u.number (mode.changed u.connection.modes spec) else opening_jobs s number spec (Some u) (settled spec)
 
+abbrev pub open_unit_jobs : State → UnitRef → ℕ → OpenSpec → Option Unit → Jobs
+open_unit_jobs s u number spec None = if is_outside u then [] else open_jobs s number spec None
+open_unit_jobs s u number spec (Some old) = open_jobs s number spec (Some old)
+
 abbrev pub numbered_jobs : Option ℕ → (ℕ → Jobs) → Jobs
 numbered_jobs None jobs = []
 numbered_jobs (Some n) jobs = jobs n
@@ -110,7 +116,7 @@ all_out us = map (λ (u : Unit). (u.number, detach None)) us
 -- the statement's own jobs
 abbrev pub own_jobs : (ℕ → List Given) → List Variable → ℕ → State → Statement → Jobs
 own_jobs control variables line s (statement.Assign to from) = []
-own_jobs control variables line s (statement.OpenUnit u spec iostat) = numbered_jobs (number_of u) (λ n. open_jobs s n spec (found s.units n))
+own_jobs control variables line s (statement.OpenUnit u spec iostat) = numbered_jobs (number_of u) (λ n. open_unit_jobs s u n spec (found s.units n))
 own_jobs control variables line s (statement.CloseUnit u keep iostat) = close_jobs keep (unit_at s (number_of u))
 own_jobs control variables line s (statement.WaitFor u id iostat) = []
 own_jobs control variables line s (statement.Move how u iostat) = motion_jobs how (unit_at s (number_of u))
@@ -164,11 +170,12 @@ pub record GivesJobs (before after : Desked) (due : Jobs) : Type 0 where
   pub are : Both (IsGiven before.core.units after.core.units) given due
   pub desks : after.desks ≡ carry_all before.desks given
 
--- for every deck, each statement that is come to gives its jobs
+-- for every deck, each statement that is come to gives its jobs, as it begins
 abbrev pub JobsAreGiven : Type 0
 JobsAreGiven = (variables : List Variable) (sts : List Stated) (st : Stated) (files : Files) →
     let reached = over_desks variables sts (fresh variables files) in
-    GivesJobs reached.desked (desk_step variables st reached.desked).0 (jobs variables st (executed variables sts (start variables files)).state)
+    let s = (executed variables sts (start variables files)).state in
+    GivesJobs reached.desked (desk_step variables (begun_at reached.desked st) reached.desked).0 (jobs variables (begun_in s st) s)
 
 -- END closes the units one after another, in ascending order, also where the condition of a transfer is told
 abbrev pub Ascend : Jobs → Type 0

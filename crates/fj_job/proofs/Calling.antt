@@ -4,10 +4,10 @@ use Rattle.std.specs.Prelude.{if◌then◌else◌}
 use Rattle.fj_value.specs.declared.condition.Condition.{Condition}
 use Rattle.fj_value.specs.declared.condition.Condition.TheVariants.{Fine, EndOfFile, EndOfRecord, Error}
 use Rattle.fj_value.specs.declared.condition.Rule.{Rule}
-use Rattle.fj_modes.specs.declared.unit.Motion.{Motion}
-use Rattle.fj_modes.specs.declared.unit.Motion.TheVariants as motion
-use Rattle.fj_modes.specs.declared.unit.UnitRef.{UnitRef}
-use Rattle.fj_modes.specs.declared.unit.UnitRef.TheVariants as unit
+use Rattle.fj_modes.specs.declared.motion.Motion.{Motion}
+use Rattle.fj_modes.specs.declared.motion.Motion.TheVariants as motion
+use Rattle.fj_statement.specs.declared.unit.UnitRef.{UnitRef}
+use Rattle.fj_statement.specs.declared.unit.UnitRef.TheVariants as unit
 use Rattle.fj_control.specs.Steps.{Given}
 use Rattle.fj_list.specs.declared.moved.Moved.{Moved}
 use Rattle.fj_statement.specs.declared.deck.Variable.{Variable}
@@ -30,6 +30,8 @@ use Rattle.fj_job.specs.Faulting.{does_without_file, SomeLearnNothing, OthersLea
 no_number : (u : UnitRef) (number : ℕ) → is_none (number_of u) ≡ true → number_of u ≡ Some number → ⊥
 no_number unit.Star number none e = cc
 no_number (unit.Number n) number none e = cc
+no_number (unit.Held place n) number none e = cc
+no_number (unit.New place n) number none e = cc
 
 waits_nowhere : (s : State) (what : Statement) (number : ℕ) → does_without_file what ≡ true → WaitsAt s what number → ⊥
 waits_nowhere s (statement.Assign to from) number e w = w
@@ -85,6 +87,8 @@ module _ (control : ℕ → List Given) (variables : List Variable) (s : State) 
   transfer_leaves : (t : Transfer) (m : Moved) (ref : UnitRef) → (transfer_at control variables s t m ref).0.files ≡ s.files
   transfer_leaves t m unit.Star = refl
   transfer_leaves t m (unit.Number n) = unit_leaves t m (found s.units n)
+  transfer_leaves t m (unit.Held place n) = unit_leaves t m (found s.units n)
+  transfer_leaves t m (unit.New place n) = unit_leaves t m (found s.units n)
 
   own_leaves : (what : Statement) → calls_disk what ≡ false → (own control variables s what).0.files ≡ s.files
   own_leaves (statement.Assign to from) e = refl
@@ -93,6 +97,8 @@ module _ (control : ℕ → List Given) (variables : List Variable) (s : State) 
   own_leaves (statement.WaitFor u id iostat) e = refl
   own_leaves (statement.Move how unit.Star iostat) e = refl
   own_leaves (statement.Move how (unit.Number n) iostat) e = moves_leave how (found s.units n)
+  own_leaves (statement.Move how (unit.Held place n) iostat) e = moves_leave how (found s.units n)
+  own_leaves (statement.Move how (unit.New place n) iostat) e = moves_leave how (found s.units n)
   own_leaves (statement.Inquire about asked id iostat) e = refl
   own_leaves (statement.Transfer t) e = transfer_leaves t (moved_by variables s t) t.unit
   own_leaves statement.End e = cc

@@ -9,10 +9,11 @@ use Rattle.fj_value.specs.declared.edit.EditModes.{EditModes}
 use Rattle.fj_modes.specs.Modes.{settled, usual_edit}
 use Rattle.fj_modes.specs.declared.modes.Modes.{Modes}
 use Rattle.fj_modes.specs.declared.specifiers.OpenSpec.{OpenSpec}
-use Rattle.fj_modes.specs.declared.unit.UnitRef.{UnitRef}
-use Rattle.fj_modes.specs.declared.unit.UnitRef.TheVariants as unit
-use Rattle.fj_modes.specs.declared.unit.Motion.{Motion}
-use Rattle.fj_modes.specs.declared.unit.Motion.TheVariants as motion
+use Rattle.fj_statement.specs.Units.{is_outside}
+use Rattle.fj_statement.specs.declared.unit.UnitRef.{UnitRef}
+use Rattle.fj_statement.specs.declared.unit.UnitRef.TheVariants as unit
+use Rattle.fj_modes.specs.declared.motion.Motion.{Motion}
+use Rattle.fj_modes.specs.declared.motion.Motion.TheVariants as motion
 use Rattle.fj_line.specs.Line.{LineState, empty_line, written, moved}
 use Rattle.fj_line.specs.Actions.{Action, put, move, end_record, meet, AtHand}
 use Rattle.fj_line.specs.Records.{texts_from, texts_of}
@@ -37,9 +38,9 @@ use Rattle.fj_items.specs.Handing.{whole_records}
 use Rattle.fj_plain.specs.Needs.{need, holders}
 use Rattle.fj_plain.specs.Telling.{is_asynchronous, after_tells, waited, condition_of}
 use Rattle.fj_plain.specs.Transfers.{moved_by, spec_of, transferred, unless_refused, on_unit, star_limit, with_printed, printed_to, on_star, transfer_at}
-use Rattle.fj_plain.specs.Connecting.{file_due, keeps_file, with_modes, is_taken, most_units, with_opened, connects, without_old, opens_with, opens, closes, closes_anyway, moves}
+use Rattle.fj_plain.specs.Connecting.{file_due, keeps_file, with_modes, is_taken, most_units, with_opened, connects, without_old, opens_with, opens, opens_unit, closes, closes_anyway, moves}
 use Rattle.fj_plain.specs.State.{State, Files, Unit, Output, found, disconnected, keeps, start}
-use Rattle.fj_plain.specs.Statement.{Stated, Ending, Ran, own, instead, acts, goes_on, step, executed, stated, plain_execution}
+use Rattle.fj_plain.specs.Statement.{Stated, Ending, Ran, begun_in, own, instead, acts, goes_on, step, executed, stated, plain_execution}
 
 -- where no record is open, none has characters
 abbrev pub IsClosed : Output → Type 0
@@ -184,6 +185,10 @@ module _ (control : ℕ → List Given) (variables : List Variable) (s : State) 
   opens_same n spec None = opens_with_same n spec None (settled spec)
   opens_same n spec (Some u) = either (keeps_file u spec spec.file) _ _ _ (modes_same s u _) (opens_with_same n spec (Some u) (settled spec))
 
+  opens_unit_same : (ref : UnitRef) (n : ℕ) (spec : OpenSpec) (old : Option Unit) → (opens_unit s ref n spec old).0.output ≡ s.output
+  opens_unit_same ref n spec None = either (is_outside ref) _ _ _ refl (opens_same n spec None)
+  opens_unit_same ref n spec (Some u) = opens_same n spec (Some u)
+
   closes_same : (keep : Option Bool) (old : Option Unit) → (closes s keep old).0.output ≡ s.output
   closes_same keep None = refl
   closes_same keep (Some u) = either _ _ _ _ refl refl
@@ -217,6 +222,8 @@ module _ (control : ℕ → List Given) (variables : List Variable) (s : State) 
   instead_same (statement.OpenUnit u spec iostat) = refl
   instead_same (statement.CloseUnit unit.Star keep iostat) = refl
   instead_same (statement.CloseUnit (unit.Number n) keep iostat) = anyway_same keep (found s.units n)
+  instead_same (statement.CloseUnit (unit.Held place n) keep iostat) = anyway_same keep (found s.units n)
+  instead_same (statement.CloseUnit (unit.New place n) keep iostat) = anyway_same keep (found s.units n)
   instead_same (statement.WaitFor u id iostat) = refl
   instead_same (statement.Move how u iostat) = refl
   instead_same (statement.Inquire subject asked id iostat) = refl
@@ -227,16 +234,24 @@ module _ (control : ℕ → List Given) (variables : List Variable) (s : State) 
   transfer_follows : (t : Transfer) (m : Moved) (ref : UnitRef) → Follows s.output (transfer_at control variables s t m ref).0.output
   transfer_follows t m unit.Star = star_follows control variables s t m (spec_of variables s t m.cells)
   transfer_follows t m (unit.Number n) = follows_same _ _ (unit_same control variables s t m (found s.units n))
+  transfer_follows t m (unit.Held place n) = follows_same _ _ (unit_same control variables s t m (found s.units n))
+  transfer_follows t m (unit.New place n) = follows_same _ _ (unit_same control variables s t m (found s.units n))
 
   own_follows : (what : Statement) → Follows s.output (own control variables s what).0.output
   own_follows (statement.Assign to from) = follows_same _ _ refl
   own_follows (statement.OpenUnit unit.Star spec iostat) = follows_same _ _ refl
-  own_follows (statement.OpenUnit (unit.Number n) spec iostat) = follows_same _ _ (opens_same control variables s n spec (found s.units n))
+  own_follows (statement.OpenUnit (unit.Number n) spec iostat) = follows_same _ _ (opens_unit_same control variables s (unit.Number n) n spec (found s.units n))
+  own_follows (statement.OpenUnit (unit.Held place n) spec iostat) = follows_same _ _ (opens_unit_same control variables s (unit.Held place n) n spec (found s.units n))
+  own_follows (statement.OpenUnit (unit.New place n) spec iostat) = follows_same _ _ (opens_unit_same control variables s (unit.New place n) n spec (found s.units n))
   own_follows (statement.CloseUnit unit.Star keep iostat) = follows_same _ _ refl
   own_follows (statement.CloseUnit (unit.Number n) keep iostat) = follows_same _ _ (closes_same control variables s keep (found s.units n))
+  own_follows (statement.CloseUnit (unit.Held place n) keep iostat) = follows_same _ _ (closes_same control variables s keep (found s.units n))
+  own_follows (statement.CloseUnit (unit.New place n) keep iostat) = follows_same _ _ (closes_same control variables s keep (found s.units n))
   own_follows (statement.WaitFor u id iostat) = follows_same _ _ refl
   own_follows (statement.Move how unit.Star iostat) = follows_same _ _ refl
   own_follows (statement.Move how (unit.Number n) iostat) = follows_same _ _ (moves_same control variables s how (found s.units n))
+  own_follows (statement.Move how (unit.Held place n) iostat) = follows_same _ _ (moves_same control variables s how (found s.units n))
+  own_follows (statement.Move how (unit.New place n) iostat) = follows_same _ _ (moves_same control variables s how (found s.units n))
   own_follows (statement.Inquire subject asked id iostat) = follows_same _ _ refl
   own_follows (statement.Transfer t) = transfer_follows t (moved_by variables s t) t.unit
   own_follows statement.End = follows_same _ _ refl
@@ -258,7 +273,7 @@ step_follows variables st s = goes_follows st.1 variables st.0.line st.0.what s 
 
 pub executed_follows : (variables : List Variable) (sts : List Stated) (s : State) → Follows s.output (executed variables sts s).state.output
 executed_follows variables [] s = follows_same _ _ refl
-executed_follows variables (st ∷ more) s = by (λ next. executed_follows variables more next) (step variables st s) (step_follows variables st s)
+executed_follows variables (st ∷ more) s = by (λ next. executed_follows variables more next) (step variables (begun_in s st) s) (step_follows variables (begun_in s st) s)
   where
     by : ((next : State) → Follows next.output (executed variables more next).state.output) → (done : State × Option Ending) → Follows s.output done.0.output
         → Follows s.output (elim done.1 as (λ _. Ran) [ None ↦ executed variables more done.0 | Some e ↦ record { state = done.0; ending = Some e } ]).state.output

@@ -1,5 +1,5 @@
 -- What the machine and its sink are where a run was cut.
-use Rattle.std.proofs.Common.{◌≡◌, ◌≢◌, ◌⊎◌, ℕ, Bool, true, false, cond, List, [], ◌++◌, map, drop, Option, Some, None, sym, ap, ◌∙◌, subst, inl, inr, append_assoc, append-nil}
+use Rattle.std.proofs.Common.{◌≡◌, ◌≢◌, ◌⊎◌, ℕ, Bool, true, false, cond, List, [], ◌∷◌, ◌++◌, map, length, drop, Option, Some, None, refl, sym, ap, ◌∙◌, subst, inl, inr, append_assoc, append-nil}
 use Rattle.fj_outside.specs.Faults.{Rose}
 use Rattle.fj_outside.specs.Holdings.{Holdings}
 use Rattle.fj_outside.specs.declared.outside.FileStore.{Ghosts}
@@ -8,8 +8,8 @@ use Rattle.fj_slot.specs.Serving.{Meaning}
 use Rattle.fj_world.specs.Rack.{Rack}
 use Rattle.fj_bay.specs.Bay.{Bay}
 use Rattle.fj_bay.specs.Jobs.{Job, Answer}
-use Rattle.fj_plain.specs.State.{Files, start}
-use Rattle.fj_plain.specs.Statement.{stated, step}
+use Rattle.fj_plain.specs.State.{Files}
+use Rattle.fj_plain.specs.Statement.{Stated, stated, step}
 use Rattle.fj_plain.specs.Telling.{tell_of}
 use Rattle.fj_desk.specs.Core.{Core}
 use Rattle.fj_desk.specs.Desking.{fresh}
@@ -24,12 +24,12 @@ use Rattle.fj_items.specs.declared.lost.Lost.{Lost}
 use Rattle.fj_acts.specs.Calling.{calls_disk}
 use Rattle.fj_acts.specs.State.{core_of}
 use Rattle.fj_runner.specs.Failing.{FailsCall, FailsAtDisk, HandsThen, CallsDisk}
-use Rattle.fj_runner.specs.Machine.{rest_of}
+use Rattle.fj_runner.specs.Machine.{numbered, rest_of}
 use Rattle.fj_runner.specs.declared.machine.Machine.{Machine}
 use Rattle.fj_job.specs.Cut.{Untold, Told, Carried, ComesTo}
 use Rattle.fj_job.specs.Fitting.{kept_name, AreOut}
 use Rattle.fj_job.specs.Cutting.{IsExact, TookFront, TookBegun, IsCut}
-use Rattle.fj_job.proofs.CutTexts.{at_hand, cut_place}
+use Rattle.fj_job.proofs.CutTexts.{at_hand}
 use Rattle.fj_job.proofs.Holding.{HoldsAt, CauseAt, cause_there, holds_there, holds_told}
 use Rattle.fj_job.proofs.Learning.{LearnsAt}
 
@@ -42,13 +42,23 @@ shown false o r e = cc
 pub lost_none : {o : Option Lost} {lost : Lost} {P : Type 0} → o ≡ None → o ≡ Some lost → P
 lost_none {lost = lost} none some = absurd (let z : None ≡ Some lost = sym none ∙ some in cc)
 
+-- ---- so many statements are left
+
+numbered_long : (o : Option ℕ) (sts : List Stated) → length (numbered o sts) ≡ length sts
+numbered_long None sts = refl
+numbered_long (Some n) [] = refl
+numbered_long (Some n) (st ∷ more) = refl
+
+pub left_behind : {F : Type 0} {ghosts : Ghosts F} (deck : Deck) (m : Machine F ghosts) → m.deck ≡ deck → length (drop m.at.place (stated deck.statements)) ≡ length (rest_of m)
+left_behind deck m same = ap (λ (d : Deck). length (drop m.at.place (stated d.statements))) (sym same) ∙ sym (numbered_long m.at.number (drop m.at.place (stated m.deck.statements)))
+
 -- ---- at a statement
 
 module _ {E J A F : Type 0} {ghosts : Ghosts F} (meaning : Meaning E J A Bay Job Answer) (rack : Rack E J A) (held : Holdings) (before now : ℕ) (Tells : Type 0) (old new : List ℕ)
     (deck : Deck) (files : Files) (m : Machine F ghosts) (same : m.deck ≡ deck) where
-  hand : (comes : ComesTo deck files) (run : Run) → run.rest ≡ rest_of m → run.rest ≡ drop comes.index (stated deck.statements)
-      → drop m.at (stated deck.statements) ≡ drop comes.index (stated deck.statements)
-  hand comes run rest place = ap (λ (d : Deck). drop m.at (stated d.statements)) (sym same) ∙ sym rest ∙ place
+  hand : (comes : ComesTo deck files) (run : Run) → run.rest ≡ rest_of m → length run.rest ≡ length (drop comes.index (stated deck.statements))
+      → length (drop m.at.place (stated deck.statements)) ≡ length (drop comes.index (stated deck.statements))
+  hand comes run rest place = left_behind deck m same ∙ ap length (sym rest) ∙ place
 
   -- a stop was told there: nothing was done
   pub cut_asking : (run : Run) (left : Files) → AsksAt deck.variables (stated deck.statements) (fresh deck.variables files) run → run.core ≡ core_of left m.state.core → run.rest ≡ rest_of m
@@ -63,7 +73,7 @@ module _ {E J A F : Type 0} {ghosts : Ghosts F} (meaning : Meaning E J A Bay Job
       let cause = cause_there meaning rack held before now deck files m run.rest why comes x.rest in
       record {
         comes = comes;
-        at = at_hand deck files comes m.at (hand comes run rest x.rest);
+        at = at_hand deck files comes m.at.place (hand comes run rest x.rest);
         exact = λ _. elim x.tells [
           | inl e ↦ record { reach = Untold; may = tt; output = output; tells = tells ∙ e ∙ it.same.tells; taken = took; files_are = there; cause = inr cause }
           | inr e ↦ record {
@@ -112,10 +122,12 @@ module _ {E J A F : Type 0} {ghosts : Ghosts F} (meaning : Meaning E J A Bay Job
           }
         ]
       where
+        calls_by : (rest : List Stated) → run.rest ≡ rest → CallsDisk rest → calls_disk x.statement.0.what ≡ true
+        calls_by [] e c = absurd c
+        calls_by (st ∷ more) e c = x.calls st more e ∙ c
+
         called : calls_disk x.statement.0.what ≡ true
-        called =
-            let place = cut_place deck.variables x.index (stated deck.statements) (start deck.variables files) x.statement it.state it.cut_is in
-            subst CallsDisk (x.rest ∙ place.1) k.called
+        called = calls_by run.rest refl k.called
 
         all : Tells → new ≡ old ++ whole_records m.state.core.output
         all t =
@@ -159,7 +171,7 @@ module _ {E J A F : Type 0} {ghosts : Ghosts F} (meaning : Meaning E J A Bay Job
         let comes : ComesTo deck files = record { index = x.index; statement = x.statement; before = it.state; there = it.cut_is } in
         record {
           comes = comes;
-          at = at_hand deck files comes m.at (hand comes f.run (sym f.rest) x.rest);
+          at = at_hand deck files comes m.at.place (hand comes f.run (sym f.rest) x.rest);
           exact = λ how. elim how [ inl none ↦ absurd (lost none) | inr disk ↦ exact_fails f.run x it (f.outside (inl disk)).known (f.disk disk) holds ];
           holds = λ lost some. holds_there meaning rack held before now deck files m f.run.rest holds comes x.rest;
           fit = record { held = holds.holding; out = out };

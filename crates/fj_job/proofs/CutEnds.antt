@@ -1,5 +1,5 @@
 -- Where a run was not cut and its deck ended: the statement at hand is the one at which it ended.
-use Rattle.std.proofs.Common.{◌≡◌, ℕ, Bool, false, cond, List, ◌++◌, drop, Option, Some, None, IsSome, refl, sym, ap, ◌∙◌, subst, inl}
+use Rattle.std.proofs.Common.{◌≡◌, ℕ, Bool, false, cond, List, ◌++◌, length, Option, Some, None, IsSome, refl, sym, ap, ◌∙◌, subst, inl}
 use Rattle.std.specs.Option.{option_map}
 use Rattle.fj_outside.specs.Holdings.{Holdings}
 use Rattle.fj_outside.specs.declared.outside.FileStore.{Ghosts}
@@ -22,7 +22,7 @@ use Rattle.fj_runner.specs.declared.ending.Ending.{Ending as Code}
 use Rattle.fj_runner.specs.declared.machine.Machine.{Machine}
 use Rattle.fj_job.specs.Cut.{Carried, ComesTo}
 use Rattle.fj_job.specs.Cutting.{HoldsFiles, IsExact, EndsHere}
-use Rattle.fj_job.proofs.Cut.{shown}
+use Rattle.fj_job.proofs.Cut.{left_behind, shown}
 use Rattle.fj_job.proofs.CutTexts.{at_hand}
 use Rattle.fj_job.proofs.Executed.{rest_is, parts}
 
@@ -33,8 +33,8 @@ module _ {F : Type 0} {ghosts : Ghosts F} (deck : Deck) (files : Files) (m : Mac
       record {
         comes = comes;
         ends = x.ends;
-        at = at_hand deck files comes m.at (ap (λ (d : Deck). drop m.at (stated d.statements)) (sym same) ∙ sym rest ∙ x.rest);
-        place = sym rest ∙ x.rest;
+        at = at_hand deck files comes m.at.place (left_behind deck m same ∙ ap length (sym rest) ∙ x.rest);
+        place = ap length (sym rest) ∙ x.rest;
         output = ap (λ (r : Ran). r.state.output) x.executed_is;
         tells = ap (λ (r : Ran). r.state.tells) x.executed_is;
         files_are = ap (λ (r : Ran). (all_closed r.state).files) x.executed_is;

@@ -1,5 +1,5 @@
 -- A script of runners that is over: its run was cut.
-use Rattle.std.proofs.Common.{◌≡◌, ◌≢◌, ◌⊎◌, ℕ, ◌<◌, Bool, true, false, cond, List, [], ◌∷◌, ◌++◌, drop, Option, Some, None, IsSome, IfSome, refl, sym, ap, ◌∙◌, subst, inl, inr, arith}
+use Rattle.std.proofs.Common.{◌≡◌, ◌≢◌, ◌⊎◌, ℕ, ◌<◌, Bool, true, false, cond, List, [], ◌∷◌, ◌++◌, Option, Some, None, IsSome, IfSome, refl, sym, ap, ◌∙◌, subst, inl, inr, arith}
 use Rattle.std.proofs.lemmas.Option.{slice_get_within}
 use Rattle.fj_outside.specs.Holdings.{Holdings}
 use Rattle.fj_outside.specs.declared.outside.FileStore.{Ghosts}
@@ -20,7 +20,7 @@ use Rattle.fj_world.specs.Rack.{Rack}
 use Rattle.fj_world.proofs.Places.{slice_get_in}
 use Rattle.fj_bay.specs.Bay.{Bay}
 use Rattle.fj_bay.specs.Jobs.{Job, Answer}
-use Rattle.fj_plain.specs.State.{Files, start}
+use Rattle.fj_plain.specs.State.{State, Files, start}
 use Rattle.fj_plain.specs.Statement.{Stated, stated}
 use Rattle.fj_desk.specs.Core.{Core, Connected}
 use Rattle.fj_desk.specs.Desking.{fresh}
@@ -29,6 +29,7 @@ use Rattle.fj_turns.specs.Cutting.{IsCutRun, IsCut as IsCutAt}
 use Rattle.fj_turns.specs.Serving.{over_bays, Shows, run_conduct, desks_of, first_run, fresh_slots, begins}
 use Rattle.fj_turns.proofs.Before.{each_asks}
 use Rattle.fj_turns.proofs.Cutting.{cut_at_stop, world_is_cut}
+use Rattle.fj_turns.proofs.Meant.{cuts_agree}
 use Rattle.fj_cut.specs.Others.{Names, names_of, names_in, file_opened}
 use Rattle.fj_cut.specs.Stopping.{WereGiven}
 use Rattle.fj_cut.specs.Turning.{IsUnbegun, TurnLeavesOthers, SubmitLeavesOthers}
@@ -52,6 +53,7 @@ use Rattle.fj_runner.specs.Tallying.{due_of}
 use Rattle.fj_runner.specs.declared.hand.Hand.{Hand}
 use Rattle.fj_runner.specs.declared.hand.Hand.TheVariants.{Idle, Submitting, Settling}
 use Rattle.fj_runner.specs.declared.machine.Machine.{Machine}
+use Rattle.fj_runner.proofs.AtHand.{rest_same}
 use Rattle.fj_job.specs.Carrying.{HasNotBegun}
 use Rattle.fj_job.specs.Cutting.{IsCut}
 use Rattle.fj_job.specs.Fitting.{kept_name, AreOut}
@@ -59,10 +61,9 @@ use Rattle.fj_job.proofs.Cut.{shown, cut_asking, cut_failing}
 use Rattle.fj_job.proofs.Executed.{parts, nothing_written, all_taken, rest_is}
 use Rattle.fj_job.proofs.Leading.{led_to, leaves_same, leaves_on, rose_earlier}
 use Rattle.fj_job.proofs.Holding.{HoldsAt, stop_cause, stop_holds, turn_holds, still_holds, submit_holds}
-use Rattle.fj_job.proofs.CutTexts.{cut_place}
-use Rattle.fj_job.proofs.Leaving.{slots_hold, within}
+use Rattle.fj_job.proofs.Leaving.{one_place, slots_hold, within}
 use Rattle.fj_job.proofs.Whole.{stopped_files}
-use Rattle.fj_job.proofs.Learning.{LearnsAt, none_left, at_before, learns_before, learns_at, asked_slot, settle_waits, asked_given}
+use Rattle.fj_job.proofs.Learning.{LearnsAt, none_left, at_before, learns_before, learns_at, SubmitsHand, submits_hand, asked_slot, settle_waits, asked_given}
 use Rattle.fj_job.proofs.Giving.{given_at}
 use Rattle.fj_job.proofs.Passes.{ends_so, some_statement}
 
@@ -284,7 +285,7 @@ module _ {S W D F : Type 0} {ghosts : Ghosts F} (s : Shows S) (tells_out : W →
 
           -- the statement at hand stays
           stays : rest_of (machine gone) ≡ rest_of (machine before)
-          stays = ap (λ (d : Deck). drop (machine gone).at (stated d.statements)) (r.leaves before gone w.call.leads).deck ∙ ap (λ i. drop i (stated (machine before).deck.statements)) (it.at asks)
+          stays = rest_same (machine before) (machine gone) (r.leaves before gone w.call.leads).deck (it.at asks)
 
           run_rest : rest ≡ script_at.script.rest
           run_rest = sym place ∙ stays ∙ sym (rest_is told bytes left (machine before) script_at.script is)
@@ -295,10 +296,14 @@ module _ {S W D F : Type 0} {ghosts : Ghosts F} (s : Shows S) (tells_out : W →
           -- a connection that was kept is of the file that the statement opens
           opens : IfSome (machine gone).kept (λ c. file_opened (names_in t.state.units) t.statement.0.what ≡ Some c.name)
           opens =
-              let here = cut_place deck.variables t.index (stated deck.statements) (start deck.variables files) t.statement t.state t.cut_is in
-              let kept = subst (λ (l : List Stated). HaveKept (kept_name (machine gone).kept) (machine gone).state.core.names (machine gone).state.core.units l) (place ∙ run_rest ∙ t.rest ∙ here.1)
-              ((r.keeps before gone w.call.leads).given_up going over stop) in
-              opens_kept (machine gone).kept (machine gone).state.core.names (machine gone).state.core.units script_at.script.core.units (names_in t.state.units) t.statement here.0 kept units t.opens
+              let here : SubmitsHand deck.variables (stated deck.statements) (fresh deck.variables files) script_at.script =
+              submits_hand meaning s deck.variables (stated deck.statements) files (ends_so deck sound) (some_statement deck sound) w.asks job.0 job.1 job.2 in
+              let cut = cuts_agree deck.variables (stated deck.statements) files here.index here.statement here.before here.reached in
+              let same : ◌≡◌ {A = Stated × State} (here.statement, cut.state) (t.statement, t.state) =
+              one_place deck.variables (stated deck.statements) (start deck.variables files) here.index t.index (here.statement, cut.state) (t.statement, t.state) cut.cut_is t.cut_is (sym here.rest ∙ t.rest) in
+              let kept = subst (λ (l : List Stated). HaveKept (kept_name (machine gone).kept) (machine gone).state.core.names (machine gone).state.core.units l)
+              (place ∙ run_rest ∙ here.here ∙ ap (λ (y : Stated × State). y.0 ∷ here.behind) same) ((r.keeps before gone w.call.leads).given_up going over stop) in
+              opens_kept (machine gone).kept (machine gone).state.core.names (machine gone).state.core.units script_at.script.core.units (names_in t.state.units) t.statement here.behind kept units t.opens
 
       gave_up : (machine gone).tally.stopped ≡ false → IsLoss (machine gone).tally.lost → GaveUpAt
       gave_up stop loss =

@@ -112,12 +112,12 @@ module _ {E J A F : Type 0} {ghosts : Ghosts F} (meaning : Meaning E J A Bay Job
   ending_is = ap (λ (r : Result). r.ending) (sym h.leaves.result) ∙ both.1
 
   -- each job of the slots was given by a statement not behind the one at hand
-  pub given_until : IsSome (option_map ending_of m.state.ending) → (index : ℕ) → rest_of m ≡ drop index (stated deck.statements) → index < length (stated deck.statements)
+  pub given_until : IsSome (option_map ending_of m.state.ending) → (index : ℕ) → length (rest_of m) ≡ length (drop index (stated deck.statements)) → index < length (stated deck.statements)
       → HoldsGiven deck.variables (stated deck.statements) files meaning rack index
   given_until some index place low =
       let g = h.given (subst IsSome (sym both.1) some) in
       subst (HoldsGiven deck.variables (stated deck.statements) files meaning rack)
-      (one_index (stated deck.statements) g.index index g.within low (sym g.rest ∙ rest_is told bytes left m h.run h.is ∙ place)) g.given
+      (one_index (stated deck.statements) g.index index g.within low (sym g.rest ∙ ap length (rest_is told bytes left m h.run h.is) ∙ place)) g.given
 
   pub output_is : p.output ≡ m.state.core.output
   output_is = ap (λ (r : Result). r.output) (sym h.leaves.result) ∙ ap (λ (c : Core). c.output) both.0

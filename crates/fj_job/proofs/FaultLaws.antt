@@ -6,7 +6,7 @@ use Rattle.fj_statement.specs.declared.deck.Lined.{Lined}
 use Rattle.fj_statement.specs.declared.deck.Deck.{Deck}
 use Rattle.fj_deck.specs.Deck.{DecksAreSound}
 use Rattle.fj_plain.specs.State.{State, Files, start}
-use Rattle.fj_plain.specs.Statement.{Stated, stated, step, Ending, cut}
+use Rattle.fj_plain.specs.Statement.{Stated, begun_in, stated, step, Ending, cut}
 use Rattle.fj_items.specs.Handing.{whole_records}
 use Rattle.fj_job.specs.Cut.{Reach, Untold, Told, Carried, reached, MayReach, ComesTo, IsNext, TookBehind}
 use Rattle.fj_job.specs.Faulting.{LinesNameStatements, TookThrough, WriteFaultsAreFirst, OneWriteFault}
@@ -36,8 +36,10 @@ one_line (z ∷ xs) above (suc i) (suc j) x y r e f same = ap suc (one_line xs z
 
 pub lines_name : DecksAreSound → LinesNameStatements
 lines_name sound text deck is files comes other same =
-    one_line deck.statements 0 comes.index other.index comes.statement.0 other.statement.0 (sound text deck is).rising
-    (at_hand deck files comes comes.index refl) (at_hand deck files other other.index refl) same
+    let one = at_hand deck files comes comes.index refl in
+    let two = at_hand deck files other other.index refl in
+    one_line deck.statements 0 comes.index other.index one.0 two.0 (sound text deck is).rising one.1 two.1
+    (sym (ap (λ (x : Stated). x.0.line) one.2) ∙ same ∙ ap (λ (x : Stated). x.0.line) two.2)
 
 -- ---- what a sink took
 
@@ -48,14 +50,14 @@ module _ (variables : List Variable) where
   later_follows i j [] s st other before behind e f low = cc
   later_follows i zero (x ∷ sts) s st other before behind e f low = absurd (omega (arith, low))
   later_follows zero (suc j) (x ∷ sts) s st other before behind e f low =
-      let same : ◌≡◌ {A = Stated × State} (x, s) (st, before) = same_some e in
-      subst (λ y. ((step variables y.0 y.1).1 ≡ None) × Follows (step variables y.0 y.1).0.output behind.output) same (by (step variables x s) f)
+      let same : ◌≡◌ {A = Stated × State} (begun_in s x, s) (st, before) = same_some e in
+      subst (λ y. ((step variables y.0 y.1).1 ≡ None) × Follows (step variables y.0 y.1).0.output behind.output) same (by (step variables (begun_in s x) s) f)
     where
       by : (done : State × Option Ending) → cut_by variables j sts done.0 done.1 ≡ Some (other, behind) → (done.1 ≡ None) × Follows done.0.output behind.output
       by (next, None) k = (refl, cut_follows variables j sts next other behind k)
       by (next, Some ending) k = absurd (let z : None ≡ Some (other, behind) = k in cc)
   later_follows (suc i) (suc j) (x ∷ sts) s st other before behind e f low =
-      by (step variables x s) (λ g h. later_follows i j sts (step variables x s).0 st other before behind g h (omega (arith, low))) e f
+      by (step variables (begun_in s x) s) (λ g h. later_follows i j sts (step variables (begun_in s x) s).0 st other before behind g h (omega (arith, low))) e f
     where
       by : (done : State × Option Ending)
           → (cut variables i sts done.0 ≡ Some (st, before) → cut variables j sts done.0 ≡ Some (other, behind)

@@ -15,7 +15,7 @@ use Rattle.fj_statement.specs.declared.deck.Deck.{Deck}
 use Rattle.fj_book.specs.Prohibitions.{prohibited}
 use Rattle.fj_plain.specs.Needs.{need, holders}
 use Rattle.fj_plain.specs.State.{State, Files, start}
-use Rattle.fj_plain.specs.Statement.{Stated, Ran, Ending, ends, goes_on, step, executed, stated, control_by, plain_execution}
+use Rattle.fj_plain.specs.Statement.{Stated, Ran, Ending, begun_in, ends, goes_on, step, executed, stated, control_by, plain_execution}
 use Rattle.fj_items.specs.Handing.{TakesFront, TakesPart}
 use Rattle.fj_report.specs.declared.status.Status.{Status}
 use Rattle.fj_report.specs.declared.status.Status.TheVariants.{Ended, ErrorStop, Prohibited, DeckRefused, Usage, ReadFault, WriteFault, DiskFault, Memory}
@@ -150,13 +150,14 @@ end_ends variables st s e =
 executed_ends : (variables : List Variable) (body : List Lined) (line : ℕ) (s : State) → IsSome (executed variables (stated (body ++ record { line = line; what = statement.End } ∷ [])) s).ending
 executed_ends variables [] line s =
     let last : Lined = record { line = line; what = statement.End } in
-    by (step variables (last, control_by last.what) s) (end_ends variables (last, control_by last.what) s refl)
+    let hand = begun_in s (last, control_by last.what) in
+    by (step variables hand s) (end_ends variables hand s refl)
   where
     by : (done : State × Option Ending) → IsSome done.1
         → IsSome (elim done.1 as (λ _. Ran) [ None ↦ executed variables [] done.0 | Some e ↦ record { state = done.0; ending = Some e } ]).ending
     by (next, None) k = cc
     by (next, Some e) k = refl
-executed_ends variables (lined ∷ body) line s = by (λ next. executed_ends variables body line next) (step variables (lined, control_by lined.what) s)
+executed_ends variables (lined ∷ body) line s = by (λ next. executed_ends variables body line next) (step variables (begun_in s (lined, control_by lined.what)) s)
   where
     by : ((next : State) → IsSome (executed variables (stated (body ++ record { line = line; what = statement.End } ∷ [])) next).ending) → (done : State × Option Ending)
         → IsSome (elim done.1 as (λ _. Ran) [ None ↦ executed variables (stated (body ++ record { line = line; what = statement.End } ∷ [])) done.0 | Some e ↦ record { state = done.0; ending = Some e } ]).ending

@@ -37,7 +37,7 @@ holds_given m rack variables deck files run qs h w at l found =
 
 -- the same at that place of the deck
 pub given_at : {E J A : Type 0} (m : Meaning E J A Bay Job Answer) (rack : Rack E J A) (variables : List Variable) (deck : List Stated) (files : Files) (run : Run) (qs : List (PlainSlot Bay Job))
-    → SlotsHold (over_bays m) qs rack → WereGiven variables deck files run qs → (index : ℕ) → run.rest ≡ drop index deck → index < length deck → HoldsGiven variables deck files m rack index
+    → SlotsHold (over_bays m) qs rack → WereGiven variables deck files run qs → (index : ℕ) → length run.rest ≡ length (drop index deck) → index < length deck → HoldsGiven variables deck files m rack index
 given_at m rack variables deck files run qs h w index place low =
     subst (HoldsGiven variables deck files m rack) (one_index deck w.index index w.within low (sym w.rest ∙ place)) (holds_given m rack variables deck files run qs h w)
 

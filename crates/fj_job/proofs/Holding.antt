@@ -1,5 +1,5 @@
 -- What closing all units would leave, where a stop was told and where a call on the outside failed.
-use Rattle.std.proofs.Common.{◌≡◌, ◌≢◌, inl, inr, ℕ, ◌≤◌, true, false, List, drop, Option, Some, None, IfSome, is_some, slice_get, sym, ap, ◌∙◌, subst}
+use Rattle.std.proofs.Common.{◌≡◌, ◌≢◌, inl, inr, ℕ, ◌≤◌, true, false, List, length, drop, Option, Some, None, IfSome, is_some, slice_get, sym, ap, ◌∙◌, subst}
 use Rattle.fj_outside.specs.Holdings.{Holdings}
 use Rattle.fj_outside.specs.declared.outside.FileStore.{Ghosts}
 use Rattle.fj_statement.specs.declared.deck.Deck.{Deck}
@@ -57,7 +57,7 @@ module _ {E J A F : Type 0} {ghosts : Ghosts F} (meaning : Meaning E J A Bay Job
     pub statement : Stated
     pub state : State
     pub cut_is : cut deck.variables index (stated deck.statements) (start deck.variables files) ≡ Some (statement, state)
-    pub place : rest ≡ drop index (stated deck.statements)
+    pub place : length rest ≡ length (drop index (stated deck.statements))
     pub desks : List Desk
     pub slots : HoldsDesks meaning rack desks
     pub units : AreHoused desks m.state.core.units
@@ -76,15 +76,15 @@ module _ {E J A F : Type 0} {ghosts : Ghosts F} (meaning : Meaning E J A Bay Job
     pub statement : Stated
     pub state : State
     pub cut_is : cut deck.variables index (stated deck.statements) (start deck.variables files) ≡ Some (statement, state)
-    pub place : rest ≡ drop index (stated deck.statements)
+    pub place : length rest ≡ length (drop index (stated deck.statements))
     pub cause : CausesSo (statement, state)
 
-  pub cause_there : (rest : List Stated) (h : CauseAt rest) (comes : ComesTo deck files) → rest ≡ drop comes.index (stated deck.statements) → CausesSo (comes.statement, comes.before)
+  pub cause_there : (rest : List Stated) (h : CauseAt rest) (comes : ComesTo deck files) → length rest ≡ length (drop comes.index (stated deck.statements)) → CausesSo (comes.statement, comes.before)
   cause_there rest h comes e =
       subst CausesSo (one_place deck.variables (stated deck.statements) (start deck.variables files) h.index comes.index (h.statement, h.state) (comes.statement, comes.before) h.cut_is comes.there (sym h.place ∙ e)) h.cause
 
   -- where a stop of that slot was told
-  pub stop_cause : (run : Run) (index : ℕ) (statement : Stated) (slot : ℕ) → run.core ≡ core_of (files_of held) m.state.core → run.rest ≡ drop index (stated deck.statements)
+  pub stop_cause : (run : Run) (index : ℕ) (statement : Stated) (slot : ℕ) → run.core ≡ core_of (files_of held) m.state.core → length run.rest ≡ length (drop index (stated deck.statements))
       → StopsAt deck.variables (stated deck.statements) files index statement slot run → ((l : Ledger E J A) → slice_get rack.slots slot ≡ Some l → is_some l.halt ≡ true)
       → (IsFree run.core.units slot → StopsAside rack run.core.units) → CauseAt run.rest
   stop_cause run index statement slot core place at halted aside = record {
@@ -103,7 +103,7 @@ module _ {E J A F : Type 0} {ghosts : Ghosts F} (meaning : Meaning E J A Bay Job
       units = ap (λ (c : Core). c.units) core
 
   -- there nothing of the statement was done
-  pub holds_there : (rest : List Stated) (h : HoldsAt rest) (comes : ComesTo deck files) → rest ≡ drop comes.index (stated deck.statements) → HoldsFiles meaning rack held before now deck files comes Untold m
+  pub holds_there : (rest : List Stated) (h : HoldsAt rest) (comes : ComesTo deck files) → length rest ≡ length (drop comes.index (stated deck.statements)) → HoldsFiles meaning rack held before now deck files comes Untold m
   holds_there rest h comes e = record {
     desks = h.desks;
     slots = h.slots;
@@ -148,7 +148,7 @@ module _ {E J A F : Type 0} {ghosts : Ghosts F} (meaning : Meaning E J A Bay Job
 
   -- so a file that no unit has is as the others
   holds_by : (rest : List Stated) (index : ℕ) (statement : Stated) (state : State) (desks : List Desk) → cut deck.variables index (stated deck.statements) (start deck.variables files) ≡ Some (statement, state)
-      → rest ≡ drop index (stated deck.statements) → HoldsDesks meaning rack desks → AreHoused desks m.state.core.units → LeavesSo desks (statement, state) → KeepsUnits (statement, state)
+      → length rest ≡ length (drop index (stated deck.statements)) → HoldsDesks meaning rack desks → AreHoused desks m.state.core.units → LeavesSo desks (statement, state) → KeepsUnits (statement, state)
       → HoldsGiven deck.variables (stated deck.statements) files meaning rack index → KeepsSo (statement, state) → HoldUnits meaning rack m.state.core.units → HoldsAt rest
   holds_by rest index statement state desks cut_is place slots housed others keeps given kept holding = record {
     index = index;
@@ -242,7 +242,7 @@ module _ {E J A F : Type 0} {ghosts : Ghosts F} (meaning : Meaning E J A Bay Job
       → (t : SubmitLeavesOthers deck.variables (stated deck.statements) files run desks) → HoldsDesks meaning rack desks → HoldsGiven deck.variables (stated deck.statements) files meaning rack t.index
       → KeepsSo (t.statement, t.state) → HoldUnits meaning rack run.core.units → HoldsAt rest
   submit_holds rest run desks same units home t slots given kept holds =
-      holds_by rest t.index t.statement t.state desks t.cut_is (same ∙ t.rest) slots (subst (λ (us : List Connected). AreHoused desks us) (sym units) t.units) others
+      holds_by rest t.index t.statement t.state desks t.cut_is (ap length same ∙ t.rest) slots (subst (λ (us : List Connected). AreHoused desks us) (sym units) t.units) others
       (λ name about new. ap (λ (us : List Connected). has_name us name) units ∙ t.keeps name about new) given kept (subst (λ (us : List Connected). HoldUnits meaning rack us) (sym units) holds)
     where
       others : LeavesSo desks (t.statement, t.state)

@@ -1,5 +1,5 @@
 -- Where in a deck a runner stands when a call gives up: before an ask, at one, and behind the statements that it then passes.
-use Rattle.std.proofs.Common.{◌≡◌, ◌≢◌, ◌⊎◌, ℕ, zero, suc, Bool, true, false, List, [], ◌∷◌, ◌++◌, map, drop, slice_get, Option, Some, None, is_some, refl, sym, ap, ◌∙◌, subst, inl, inr}
+use Rattle.std.proofs.Common.{◌≡◌, ◌≢◌, ◌⊎◌, ℕ, zero, suc, Bool, true, false, List, [], ◌∷◌, ◌++◌, map, length, drop, slice_get, Option, Some, None, is_some, refl, sym, ap, ◌∙◌, subst, inl, inr}
 use Rattle.std.specs.Prelude.{option_and_then, if◌then◌else◌}
 use Rattle.fj_value.specs.declared.condition.Rule.{Rule}
 use Rattle.fj_statement.specs.declared.deck.Variable.{Variable}
@@ -17,16 +17,19 @@ use Rattle.fj_plain.specs.Telling.{tell_of}
 use Rattle.fj_desk.specs.Doing.{Doing, finishes, gives, awaits, Desked}
 use Rattle.fj_desk.specs.Desking.{desk_step, fresh}
 use Rattle.fj_turns.specs.Run.{Run, Stage, Start, Waiting, Acting, Awaiting}
-use Rattle.fj_turns.specs.Turns.{Turn, Pauses, Passes, Stops, Asked, finish_by, turn_act, with_core, with_iostat, doing_told, with_tells, wait_by, waited_now, unsettled, start_by, rule_of, turn, turn_start, goes, by_turn, asked_on, asked, told_of}
+use Rattle.fj_turns.specs.Turns.{Turn, Pauses, Passes, Stops, Asked, finish_by, turn_act, with_core, with_iostat, doing_told, with_tells, wait_by, waited_now, unsettled, start_by, rule_of, begun_for, hand_at, with_hand, turn, turn_start, goes, by_turn, asked_on, asked, told_of}
 use Rattle.fj_turns.specs.Serving.{over_bays, Shows, run_conduct, first_run, fresh_slots, begins}
 use Rattle.fj_turns.specs.Inside.{waited_at, cut_desks}
 use Rattle.fj_turns.specs.Passing.{passed_by, passed_on, passes, output_of, output_due, turn_output, knows_at, known_due, KnowsAnswers, told_at, tells_due, turn_tells}
 use Rattle.fj_turns.proofs.Decks.{cut_here}
 use Rattle.fj_turns.proofs.Slots.{same_some}
-use Rattle.fj_turns.proofs.Passed.{At, stands_at, tells_at, output_at, Led, asked_leads}
+use Rattle.fj_turns.proofs.Passed.{At, long_at, stands_at, tells_at, output_at, Led, asked_leads}
 use Rattle.fj_turns.proofs.Before.{fares_after}
+use Rattle.fj_acts.specs.Calling.{calls_disk}
 use Rattle.fj_cut.specs.Stopping.{WereGiven}
-use Rattle.fj_cut.proofs.Given.{each_turn_given}
+use Rattle.fj_cut.proofs.Given.{each_turn_given, within_deck}
+use Rattle.fj_runner.proofs.AtHand.{calls_hand}
+use Rattle.fj_job.proofs.Leaving.{same_index}
 use Rattle.fj_job.proofs.Pausing.{asked_pauses}
 use Rattle.fj_job.proofs.Passes.{IsPassed, EndsSo, passed_is, passes_on}
 
@@ -43,8 +46,15 @@ abbrev pub WaitsOn : List Stated → Run → Type 0
 WaitsOn [] r = ⊥
 WaitsOn (st ∷ rest) r = WaitsIn st r.stage r
 
+-- or the statement at hand has begun
+abbrev pub HasBegun : Stage → Type 0
+HasBegun Start = ⊥
+HasBegun Waiting = Unit {0}
+HasBegun (Acting does) = Unit {0}
+HasBegun (Awaiting slot number next) = Unit {0}
+
 abbrev WaitsBy : Ask Job → Run → Type 0
-WaitsBy (Submit slot job) r = Unit {0}
+WaitsBy (Submit slot job) r = HasBegun r.stage
 WaitsBy (Settle slot) r = WaitsOn r.rest r
 WaitsBy Finished r = Unit {0}
 
@@ -72,11 +82,13 @@ module _ (st : Stated) (rest : List Stated) where
   start_waits r e (Some rule) = tt
   start_waits r e None = wait_waits r e (unsettled (waited_now st r) r.book) refl
 
-  turn_waits : (stage : Stage) (r : Run) → r.rest ≡ st ∷ rest → TurnWaits (turn st stage r)
-  turn_waits Start r e = start_waits r e (rule_of r.variables st r.core)
-  turn_waits Waiting r e = wait_waits r e (unsettled (waited_now st r) r.book) refl
-  turn_waits (Acting does) r e = act_waits does r
-  turn_waits (Awaiting slot number next) r e = subst (λ l. WaitsOn l (record r { stage = Awaiting slot number next; due = slot })) (sym e) tt
+turn_waits : (st : Stated) (rest : List Stated) (stage : Stage) (r : Run) → r.rest ≡ st ∷ rest → TurnWaits (turn st stage r)
+turn_waits st rest Start r e =
+    let hand = begun_for r st in
+    start_waits hand rest (with_hand hand r) (ap (λ l. hand ∷ drop 1 l) e) (rule_of r.variables hand r.core)
+turn_waits st rest Waiting r e = wait_waits st rest r e (unsettled (waited_now st r) r.book) refl
+turn_waits st rest (Acting does) r e = act_waits st rest does r
+turn_waits st rest (Awaiting slot number next) r e = subst (λ l. WaitsOn l (record r { stage = Awaiting slot number next; due = slot })) (sym e) tt
 
 goes_waits : (sts : List Stated) (r : Run) → WaitsBy (goes sts r).ask (goes sts r).run
 goes_waits [] r = tt
@@ -140,16 +152,34 @@ pub record LearnsAt (variables : List Variable) (deck : List Stated) (first : De
   pub statement : Stated
   pub before : Desked
   pub reached : cut_desks variables index deck first ≡ Some (statement, before)
-  pub rest : run.rest ≡ drop index deck
+  pub rest : length run.rest ≡ length (drop index deck)
+  -- it calls the disk itself as the one at hand does
+  pub calls : (st : Stated) (more : List Stated) → run.rest ≡ st ∷ more → calls_disk statement.0.what ≡ calls_disk st.0.what
   pub output : run.core.output ≡ before.core.output
   pub due : turn_output run ≡ (desk_step variables statement before).0.core.output
   pub tells : KnowsAnswers run → (turn_tells run ≡ before.core.tells) ⊎ (turn_tells run ≡ before.core.tells ++ map (tell_of statement.0.line) (waited_at statement before))
 
+-- the one in front is the statement of the deck as it begins
+pub record SubmitsHand (variables : List Variable) (deck : List Stated) (first : Desked) (run : Run) : Type 0 where
+  pub index : ℕ
+  pub statement : Stated
+  pub before : Desked
+  pub reached : cut_desks variables index deck first ≡ Some (statement, before)
+  pub rest : length run.rest ≡ length (drop index deck)
+  pub behind : List Stated
+  pub here : run.rest ≡ statement ∷ behind
+
+begun_hand : (st : Stated) (stage : Stage) (r : Run) → HasBegun stage → hand_at st stage r ≡ st
+begun_hand st Start r b = absurd b
+begun_hand st Waiting r b = refl
+begun_hand st (Acting does) r b = refl
+begun_hand st (Awaiting slot number next) r b = refl
+
 -- statements are left then
 pub none_left : (variables : List Variable) (deck : List Stated) (first : Desked) (run : Run) → LearnsAt variables deck first run → run.rest ≡ [] → ⊥
 none_left variables deck first run x none =
-    let here : drop x.index deck ≡ x.statement ∷ drop (suc x.index) deck = cut_here variables x.index deck first x.statement x.before x.reached in
-    let z : [] ≡ x.statement ∷ drop (suc x.index) deck = sym none ∙ x.rest ∙ here in cc
+    let here = cut_here variables x.index deck first (x.statement, x.before) x.reached in
+    let z : 0 ≡ suc (length (drop (suc x.index) deck)) = ap length (sym none) ∙ x.rest ∙ here in cc
 
 module _ {E J A S : Type 0} (m : Meaning E J A Bay Job Answer) (s : Shows S) (variables : List Variable) (deck : List Stated) (files : Files) (so : EndsSo deck) (some : deck ≡ [] → ⊥) where
   abbrev c : Conduct S Job Answer
@@ -165,10 +195,45 @@ module _ {E J A S : Type 0} (m : Meaning E J A Bay Job Answer) (s : Shows S) (va
   abbrev at : ℕ → Plain Bay c
   at n = after (over_bays m) c n (begins m s variables deck files)
 
+  calls_so : (run : Run) (qs : List (PlainSlot Bay Job)) (x : At m variables deck first run qs) (late : Run) → late.rest ≡ run.rest → (st : Stated) (more : List Stated) → late.rest ≡ st ∷ more
+      → calls_disk x.statement.0.what ≡ calls_disk st.0.what
+  calls_so run qs x late same st more e =
+      let here : x.at_hand ∷ x.behind ≡ st ∷ more = sym (same ∙ x.here) ∙ e in
+      let first : x.at_hand ≡ st = cc in
+      calls_hand x.at_hand x.statement run.stage run x.hand ∙ ap (λ (z : Stated). calls_disk z.0.what) first
+
+  same_statement : (run : Run) (qs : List (PlainSlot Bay Job)) (x : At m variables deck first run qs) (index : ℕ) (st : Stated) (p : Desked) → cut_desks variables index deck first ≡ Some (st, p)
+      → length run.rest ≡ length (drop index deck) → x.statement ≡ st
+  same_statement run qs x index st p reached rest =
+      let place : x.index ≡ index = same_index deck x.index index (within_deck variables index deck first (st, p) reached) (sym (long_at m variables deck first run qs x) ∙ rest) in
+      let same : ◌≡◌ {A = Stated × Desked} (x.statement, x.before) (st, p) = same_some (sym x.reached ∙ ap (λ n. cut_desks variables n deck first) place ∙ reached) in
+      ap (λ (z : Stated × Desked). z.0) same
+
   stands_learns : (run : Run) (qs : List (PlainSlot Bay Job)) → At m variables deck first run qs → LearnsAt variables deck first run
   stands_learns run qs x =
       let y = stands_at m variables deck first run qs x in
-      record { index = y.index; statement = y.statement; before = y.before; reached = y.reached; rest = y.rest; output = y.output; due = y.due; tells = λ k. inr (y.tells k) }
+      record {
+        index = y.index;
+        statement = y.statement;
+        before = y.before;
+        reached = y.reached;
+        rest = y.rest;
+        calls = λ st more e. ap (λ (z : Stated). calls_disk z.0.what) (sym (same_statement run qs x y.index y.statement y.before y.reached y.rest)) ∙ calls_so run qs x run refl st more e;
+        output = y.output;
+        due = y.due;
+        tells = λ k. inr (y.tells k);
+      }
+
+  hand_of : (run : Run) (qs : List (PlainSlot Bay Job)) → At m variables deck first run qs → HasBegun run.stage → SubmitsHand variables deck first run
+  hand_of run qs x b = record {
+    index = x.index;
+    statement = x.statement;
+    before = x.before;
+    reached = x.reached;
+    rest = long_at m variables deck first run qs x;
+    behind = x.behind;
+    here = x.here ∙ ap (λ st. st ∷ x.behind) (sym (begun_hand x.at_hand run.stage run b) ∙ x.hand);
+  }
 
   -- ---- before an ask
 
@@ -206,26 +271,27 @@ module _ {E J A S : Type 0} (m : Meaning E J A Bay Job Answer) (s : Shows S) (va
   waits_learn : (run : Run) (qs : List (PlainSlot Bay Job)) (x : At m variables deck first run qs) → run.core.output ≡ (desk_step variables x.statement x.before).0.core.output → (told : Run)
       → told.core ≡ run.core → told.rest ≡ run.rest → WaitsOn told.rest told → (count : ℕ) (late : Run) → passes count told ≡ Some late → LearnsAt variables deck first late
   waits_learn run qs x leaves told core rest w zero late p =
-      let here : told.rest ≡ x.statement ∷ x.behind = rest ∙ x.here in
-      let waits : WaitsIn x.statement told.stage told = subst (λ l. WaitsOn l told) here w in
+      let here : told.rest ≡ x.at_hand ∷ x.behind = rest ∙ x.here in
+      let waits : WaitsIn x.at_hand told.stage told = subst (λ l. WaitsOn l told) here w in
       let same : told ≡ late = same_some p in
       subst (LearnsAt variables deck first) same (record {
         index = x.index;
         statement = x.statement;
         before = x.before;
         reached = x.reached;
-        rest = rest ∙ x.place;
+        rest = ap length rest ∙ long_at m variables deck first run qs x;
+        calls = calls_so run qs x told rest;
         output = ap (λ k. k.output) core ∙ output_at m variables deck first run qs x;
-        due = ap (λ l. output_due l told) here ∙ waits_output x.statement told told.stage waits ∙ ap (λ k. k.output) core ∙ leaves;
+        due = ap (λ l. output_due l told) here ∙ waits_output x.at_hand told told.stage waits ∙ ap (λ k. k.output) core ∙ leaves;
         tells = λ k.
             let tells : turn_tells told ≡ run.core.tells =
-            ap (λ l. tells_due l told) here ∙ waits_tells x.statement told told.stage waits (subst (λ l. known_due l told) here k) ∙ ap (λ z. z.tells) core in
+            ap (λ l. tells_due l told) here ∙ waits_tells x.at_hand told told.stage waits (subst (λ l. known_due l told) here k) ∙ ap (λ z. z.tells) core in
             elim (tells_at m variables deck first run qs x) [ inl e ↦ inl (tells ∙ e) | inr e ↦ inr (tells ∙ e) ];
       })
   waits_learn run qs x leaves told core rest w (suc count) late p =
-      let here : told.rest ≡ x.statement ∷ x.behind = rest ∙ x.here in
-      let waits : WaitsIn x.statement told.stage told = subst (λ l. WaitsOn l told) here w in
-      absurd (by (passed_by x.behind (turn x.statement told.stage told)) (λ late e. waits_stays x.statement told told.stage waits (passed_is x.behind (turn x.statement told.stage told) late e).0)
+      let here : told.rest ≡ x.at_hand ∷ x.behind = rest ∙ x.here in
+      let waits : WaitsIn x.at_hand told.stage told = subst (λ l. WaitsOn l told) here w in
+      absurd (by (passed_by x.behind (turn x.at_hand told.stage told)) (λ late e. waits_stays x.at_hand told told.stage waits (passed_is x.behind (turn x.at_hand told.stage told) late e).0)
       (sym (ap (λ l. option_and_then (passes count) (passed_on l told)) here) ∙ p))
     where
       by : (o : Option Run) → ((z : Run) → o ≡ Some z → ⊥) → option_and_then (passes count) o ≡ Some late → ⊥
@@ -256,7 +322,7 @@ module _ {E J A S : Type 0} (m : Meaning E J A Bay Job Answer) (s : Shows S) (va
             let x = stands_learns p.run (before n).1 (passes_on m variables deck first so p.count (before n).0 p.run (before n).1 y p.passed) in
             elim (each_turn_given m s variables deck files n p.count p.run y.going p.passed) [
               | inl none ↦ absurd (none_left variables deck first p.run x none)
-              | inr g ↦ record { index = g.index; rest = ap (λ (z : Plain Bay c). z.script.rest) e ∙ p.rest ∙ g.rest; within = g.within; each = g.each; told = g.told }
+              | inr g ↦ record { index = g.index; rest = ap (λ (z : Plain Bay c). length z.script.rest) e ∙ p.rest ∙ g.rest; within = g.within; each = g.each; told = g.told }
             ]
         | inr (f, over, was) ↦ absurd (h f)
       ]
@@ -269,6 +335,18 @@ module _ {E J A S : Type 0} (m : Meaning E J A Bay Job Answer) (s : Shows S) (va
             let asks : (asked (before n).0).ask ≡ Settle slot = sym (ap (λ (z : Plain Bay c). z.hand) e) ∙ h in
             subst (λ (z : Plain Bay c). WaitsOn z.script.rest z.script) (sym e) (subst (λ a. WaitsBy a (asked (before n).0).run) asks (asked_waits (before n).0))
         | inr (f, over, was) ↦ absurd (let z : Finished ≡ Settle slot = sym f ∙ h in cc)
+      ]
+
+  -- where a job is submitted, the statement at hand is the one of the deck as it begins
+  pub submits_hand : (n slot : ℕ) (job : Job) → (at n).hand ≡ Submit slot job → SubmitsHand variables deck first (at n).script
+  submits_hand n slot job h =
+      elim (fares_after m s variables deck files n) [
+        | inl (e, y) ↦
+            let asks : (asked (before n).0).ask ≡ Submit slot job = sym (ap (λ (z : Plain Bay c). z.hand) e) ∙ h in
+            let it = subst (λ a. Led m variables deck first a (asked (before n).0).run (before n).1) asks (asked_leads m variables deck first (before n).0 (before n).1 y) in
+            let begun = subst (λ a. WaitsBy a (asked (before n).0).run) asks (asked_waits (before n).0) in
+            subst (λ (z : Plain Bay c). SubmitsHand variables deck first z.script) (sym e) (hand_of (asked (before n).0).run _ it.2.stands begun)
+        | inr (f, over, was) ↦ absurd (let z : Finished ≡ Submit slot job = sym f ∙ h in cc)
       ]
 
   -- the slot of an answer that is awaited is one of those that there are

@@ -17,7 +17,7 @@ use Rattle.fj_world.specs.Rack.{Rack}
 use Rattle.fj_bay.specs.Bay.{Bay}
 use Rattle.fj_bay.specs.Jobs.{Job, Answer, attach, detach, move, go, change, flush, look, resume}
 use Rattle.fj_plain.specs.State.{State, Files, Unit, files_closed, keeps, left, all_closed}
-use Rattle.fj_plain.specs.Statement.{Stated, Ending, step, cut}
+use Rattle.fj_plain.specs.Statement.{Stated, Ending, begun_in, step, cut}
 use Rattle.fj_plain.specs.Telling.{waited, ends_halt}
 use Rattle.fj_desk.specs.Core.{Connected}
 use Rattle.fj_desk.specs.Desks.{Desk, Outcome}
@@ -131,20 +131,23 @@ length_dropped (suc k) (x ∷ xs) = length_dropped k xs ∙ omega arith
 pub within : (variables : List Variable) (index : ℕ) (deck : List Stated) (s : State) (x : Stated × State) → cut variables index deck s ≡ Some x → index < length deck
 within variables index [] s x e = cc
 within variables zero (st ∷ more) s x e = omega arith
-within variables (suc index) (st ∷ more) s x e = by (λ f. within variables index more (step variables st s).0 x f) (step variables st s).1 e
+within variables (suc index) (st ∷ more) s x e = by (λ f. within variables index more (step variables (begun_in s st) s).0 x f) (step variables (begun_in s st) s).1 e
   where
-    by : (cut variables index more (step variables st s).0 ≡ Some x → index < length more) → (o : Option Ending)
-        → elim o as (λ _. Option (Stated × State)) [ None ↦ cut variables index more (step variables st s).0 | Some ending ↦ None ] ≡ Some x → suc index < length (st ∷ more)
+    by : (cut variables index more (step variables (begun_in s st) s).0 ≡ Some x → index < length more) → (o : Option Ending)
+        → elim o as (λ _. Option (Stated × State)) [ None ↦ cut variables index more (step variables (begun_in s st) s).0 | Some ending ↦ None ] ≡ Some x → suc index < length (st ∷ more)
     by later None e = let k = later e in omega (arith, k)
     by later (Some ending) e = let z : None ≡ Some x = e in cc
 
--- what is left of the deck says where that is
-pub one_index : {X : Type 0} (deck : List X) (i j : ℕ) → i < length deck → j < length deck → drop i deck ≡ drop j deck → i ≡ j
-one_index deck i j p q e =
-    let lengths : length deck - i ≡ length deck - j = sym (length_dropped i deck) ∙ ap length e ∙ length_dropped j deck in
-    omega (arith, p, q, lengths)
+-- how much is left of the deck says where that is
+pub same_index : {X : Type 0} (deck : List X) (i j : ℕ) → j < length deck → length (drop i deck) ≡ length (drop j deck) → i ≡ j
+same_index deck i j q e =
+    let lengths : length deck - i ≡ length deck - j = sym (length_dropped i deck) ∙ e ∙ length_dropped j deck in
+    omega (arith, q, lengths)
 
-pub one_place : (variables : List Variable) (deck : List Stated) (s : State) (i j : ℕ) (x y : Stated × State) → cut variables i deck s ≡ Some x → cut variables j deck s ≡ Some y → drop i deck ≡ drop j deck → x ≡ y
+pub one_index : {X : Type 0} (deck : List X) (i j : ℕ) → i < length deck → j < length deck → length (drop i deck) ≡ length (drop j deck) → i ≡ j
+one_index deck i j p q e = same_index deck i j q e
+
+pub one_place : (variables : List Variable) (deck : List Stated) (s : State) (i j : ℕ) (x y : Stated × State) → cut variables i deck s ≡ Some x → cut variables j deck s ≡ Some y → length (drop i deck) ≡ length (drop j deck) → x ≡ y
 one_place variables deck s i j x y a b e =
     let same : i ≡ j = one_index deck i j (within variables i deck s x a) (within variables j deck s y b) e in
     let both : Some x ≡ Some y = sym a ∙ ap (λ n. cut variables n deck s) same ∙ b in cc

@@ -9,6 +9,8 @@ use Rattle.fj_statement.specs.declared.deck.Lined.{Lined}
 use Rattle.fj_statement.specs.declared.deck.Deck.{Deck}
 use Rattle.fj_statement.specs.declared.statement.Statement.TheVariants as statement
 use Rattle.fj_statement.specs.Sound.{IsSound}
+use Rattle.fj_statement.specs.Units.{begun}
+use Rattle.fj_store.specs.Variables.{value_at}
 use Rattle.fj_slot.specs.Serving.{Meaning}
 use Rattle.fj_world.specs.Plain.{PlainSlot}
 use Rattle.fj_bay.specs.Bay.{Bay}
@@ -16,8 +18,10 @@ use Rattle.fj_bay.specs.Jobs.{Job, Answer}
 use Rattle.fj_plain.specs.State.{Entry}
 use Rattle.fj_plain.specs.Statement.{Stated, stated, control_by, Ending, ends}
 use Rattle.fj_desk.specs.Doing.{Doing, finishes, gives, awaits, Desked}
+use Rattle.fj_desk.specs.Desking.{begun_at, desk_step}
 use Rattle.fj_turns.specs.Run.{Run, Stage, Start, Waiting, Acting, Awaiting}
-use Rattle.fj_turns.specs.Turns.{Turn, Pauses, Passes, Stops, finish_by, turn_act, with_core, with_iostat, doing_told, with_tells, wait_by, waited_now, unsettled, start_by, rule_of, turn}
+use Rattle.fj_turns.specs.Turns.{Turn, Pauses, Passes, Stops, finish_by, turn_act, with_core, with_iostat, doing_told, with_tells, wait_by, waited_now, unsettled, start_by, rule_of, begun_for, hand_at, with_hand, turn}
+use Rattle.fj_turns.specs.Inside.{cut_desks}
 use Rattle.fj_turns.specs.Passing.{passed_by, passed_on, passes}
 use Rattle.fj_turns.proofs.Slots.{same_some}
 use Rattle.fj_turns.proofs.Passed.{At, passes_stand}
@@ -55,11 +59,11 @@ module _ (st : Stated) (is_end : st.0.what ≡ statement.End) where
   start_stays (Some rule) r p = p
   start_stays None r p = wait_stays (waited_now st r) (unsettled (waited_now st r) r.book) r p
 
-  turn_stays : (stage : Stage) (r : Run) → IsPassed (turn st stage r) → ⊥
-  turn_stays Start r p = start_stays (rule_of r.variables st r.core) r p
-  turn_stays Waiting r p = wait_stays (waited_now st r) (unsettled (waited_now st r) r.book) r p
-  turn_stays (Acting does) r p = act_stays does r p
-  turn_stays (Awaiting slot number next) r p = p
+turn_stays : (st : Stated) (stage : Stage) (r : Run) → (hand_at st stage r).0.what ≡ statement.End → IsPassed (turn st stage r) → ⊥
+turn_stays st Start r e p = start_stays (begun_for r st) e (rule_of r.variables (begun_for r st) r.core) (with_hand (begun_for r st) r) p
+turn_stays st Waiting r e p = wait_stays st e (waited_now st r) (unsettled (waited_now st r) r.book) r p
+turn_stays st (Acting does) r e p = act_stays st e does r p
+turn_stays st (Awaiting slot number next) r e p = p
 
 -- ---- it is the last statement of a deck
 
@@ -95,12 +99,32 @@ passed_is rest (Passes r) run e = let same : record r { rest = rest } ≡ run = 
 passed_is rest (Pauses ask r) run e = cc
 passed_is rest (Stops r) run e = cc
 
+-- the statement of a cut over desks is the one that stands there, as it begins
+desk_place : (variables : List Variable) (index : ℕ) (deck : List Stated) (p : Desked) (st : Stated) (before : Desked) → cut_desks variables index deck p ≡ Some (st, before)
+    → (plain : Stated) × (drop index deck ≡ plain ∷ drop (suc index) deck) × (st ≡ begun_at before plain)
+desk_place variables index [] p st before e = cc
+desk_place variables zero (x ∷ more) p st before e =
+    let same : ◌≡◌ {A = Stated × Desked} (begun_at p x, p) (st, before) = same_some e in
+    (x, refl, sym (ap (λ y. y.0) same) ∙ ap (λ y. begun_at y.1 x) same)
+desk_place variables (suc index) (x ∷ more) p st before e = by (desk_step variables (begun_at p x) p) (desk_place variables index more (desk_step variables (begun_at p x) p).0 st before) e
+  where
+    by : (done : Desked × Option Ending)
+        → (cut_desks variables index more done.0 ≡ Some (st, before) → (plain : Stated) × (drop index more ≡ plain ∷ drop (suc index) more) × (st ≡ begun_at before plain))
+        → elim done.1 as (λ _. Option (Stated × Desked)) [ None ↦ cut_desks variables index more done.0 | Some ending ↦ None ] ≡ Some (st, before)
+        → (plain : Stated) × (drop index more ≡ plain ∷ drop (suc index) more) × (st ≡ begun_at before plain)
+    by (next, None) later f = later f
+    by (next, Some ending) later f = absurd (let z : None ≡ Some (st, before) = f in cc)
+
 module _ {E J A : Type 0} (m : Meaning E J A Bay Job Answer) (variables : List Variable) (deck : List Stated) (first : Desked) (so : EndsSo deck) where
   pass_one : (r next : Run) (qs : List (PlainSlot Bay Job)) → At m variables deck first r qs → passed_on r.rest r ≡ Some next → At m variables deck first next qs
   pass_one r next qs x e =
-      let got = passed_is x.behind (turn x.statement r.stage r) next (sym (ap (λ l. passed_on l r) x.here) ∙ e) in
+      let got = passed_is x.behind (turn x.at_hand r.stage r) next (sym (ap (λ l. passed_on l r) x.here) ∙ e) in
+      let place = desk_place variables x.index deck first x.statement x.before x.reached in
       elim (passes_stand m variables deck first 1 r qs x next (ap (option_and_then (passes 0)) e)) [
-        | inl none ↦ absurd (turn_stays x.statement (so x.index x.statement (sym x.place ∙ x.here ∙ ap (λ l. x.statement ∷ l) (sym got.1 ∙ none))) r.stage r got.0)
+        | inl none ↦
+            let ends : place.0.0.what ≡ statement.End = so x.index place.0 (place.1 ∙ ap (λ l. place.0 ∷ l) (x.place ∙ sym got.1 ∙ none)) in
+            let it : x.statement.0.what ≡ statement.End = ap (λ (z : Stated). z.0.what) place.2 ∙ ap (λ w. begun (value_at x.before.core.vars) x.before.core.new_unit w) ends in
+            absurd (turn_stays x.at_hand r.stage r (ap (λ (z : Stated). z.0.what) x.hand ∙ it) got.0)
         | inr y ↦ y
       ]
 

@@ -15,7 +15,7 @@ use Rattle.fj_bay.specs.Bay.{Bay}
 use Rattle.fj_bay.specs.Jobs.{Job, Answer}
 use Rattle.fj_world.specs.Rack.{Rack}
 use Rattle.fj_plain.specs.State.{State, Files, Output, Tell, all_closed, start}
-use Rattle.fj_plain.specs.Statement.{plain_execution, step, stated}
+use Rattle.fj_plain.specs.Statement.{Stated, plain_execution, step, stated}
 use Rattle.fj_desk.specs.Core.{has_name}
 use Rattle.fj_cut.specs.Others.{Names, names_in, file_opened, file_about, file_renewed, AreHoused}
 use Rattle.fj_cut.proofs.Connecting.{opened_about}
@@ -37,7 +37,7 @@ use Rattle.fj_runner.specs.declared.machine.Machine.{Machine}
 use Rattle.fj_acts.specs.declared.state.Core.{Core as Kept}
 use Rattle.fj_job.specs.Carrying.{HasRun}
 use Rattle.fj_job.specs.Concluding.{HasEnded, IsResult, run_text, fault_text}
-use Rattle.fj_job.specs.Cut.{Reach, Untold, Carried as At, reached, ComesTo, AreCutShort, AreLeft, IsLearnt, CutByMemory, fault_report, IsFaultReport, IsNext, TookRun, TookReport, TookBehind, CutByDisk, CutBySink}
+use Rattle.fj_job.specs.Cut.{Reach, Untold, Carried as At, reached, ComesTo, BeginsAt, AreCutShort, AreLeft, IsLearnt, CutByMemory, fault_report, IsFaultReport, IsNext, TookRun, TookReport, TookBehind, CutByDisk, CutBySink}
 use Rattle.fj_job.specs.Cutting.{HoldsFiles, IsCut, EndsHere, IsLeftAt, IsLeftBegun, TookSome, IsCause}
 use Rattle.fj_job.specs.Fitting.{IsOther, LeavesFit}
 use Rattle.fj_job.specs.Losing.{wants}
@@ -166,10 +166,10 @@ module _ {E J A F : Type 0} {ghosts : Ghosts F} (meaning : Meaning E J A Bay Job
   learnt_by told comes (inr (inr (called, rose))) = inr (called, rose_later before now end rose late)
 
 module _ {E J A F : Type 0} {ghosts : Ghosts F} (meaning : Meaning E J A Bay Job Answer) (rack : Rack E J A) (held last : Holdings) (before now end : ℕ) (Tells : Type 0) (old new : List ℕ)
-    (deck : Deck) (files : Files) (m : Machine F ghosts) (l : Left F) (cut : IsCut meaning rack held before now Tells old new deck files m) (at : l.at ≡ m.at) (settled : Result (Unit {0}) Lost)
+    (deck : Deck) (files : Files) (m : Machine F ghosts) (l : Left F) (cut : IsCut meaning rack held before now Tells old new deck files m) (at : l.at ≡ m.at.place) (settled : Result (Unit {0}) Lost)
     (closed : AreClosed meaning rack m.state.core.units m.kept held last now end settled) (early : before ≤ now) (late : now ≤ end) (told : wants settled ≡ false) where
-  hand : slice_get deck.statements l.at ≡ Some cut.comes.statement.0
-  hand = ap (λ n. slice_get deck.statements n) at ∙ cut.at
+  hand : BeginsAt cut.comes l.at
+  hand = subst (BeginsAt cut.comes) (sym at) cut.at
 
   -- where nothing was lost, or by the disk
   pub left_at : (m.tally.lost ≡ None) ⊎ (m.tally.lost ≡ Some Disk) → l.core ≡ record (m.state.core) { names = l.core.names } → IsLeftAt deck files l last before end
@@ -191,14 +191,14 @@ module _ {E J A F : Type 0} {ghosts : Ghosts F} (meaning : Meaning E J A Bay Job
   left_begun lost = record { comes = cut.comes; at = hand; begun = λ t. cut.begun t lost; files_are = files_left meaning rack held last before now end deck files m settled closed early late told cut.comes Untold (cut.holds Sink lost) }
 
 -- where the deck ended
-pub left_end : {F : Type 0} {ghosts : Ghosts F} (deck : Deck) (files : Files) (m : Machine F ghosts) (l : Left F) (last : Holdings) (before end : ℕ) → EndsHere deck files m → l.at ≡ m.at
+pub left_end : {F : Type 0} {ghosts : Ghosts F} (deck : Deck) (files : Files) (m : Machine F ghosts) (l : Left F) (last : Holdings) (before end : ℕ) → EndsHere deck files m → l.at ≡ m.at.place
     → IsResult (plain_execution deck.variables deck.statements files) (files_of last) l → (x : IsLeftAt deck files l last before end) × (x.reach ≡ At)
 left_end deck files m l last before end e at is = (
   record {
     comes = e.comes;
     reach = At;
     may = e.ends;
-    at = ap (λ n. slice_get deck.statements n) at ∙ e.at;
+    at = subst (BeginsAt e.comes) (sym at) e.at;
     output = sym is.output ∙ e.output;
     tells = sym is.tells ∙ e.tells;
     files_are = record {
@@ -235,7 +235,7 @@ fault_reported deck files l held before now at trace line is =
 module _ {F : Type 0} (deck : Deck) (trace : Bool) (it : Carried F) (before now : Held) (left : Holdings) (own own' : ℕ) (old mid new : List ℕ) (same : it.left.deck ≡ deck) where
   -- its line is that of the statement at hand
   line_by : (at : IsLeftAt deck (files_in before) it.left left own own') (line : ℕ) → ((lined : _) → slice_get it.left.deck.statements it.left.at ≡ Some lined → line ≡ lined.line) → at.comes.statement.0.line ≡ line
-  line_by at line is = sym (is at.comes.statement.0 (ap (λ (d : Deck). slice_get d.statements it.left.at) same ∙ at.at))
+  line_by at line is = ap (λ (x : Stated). x.0.line) at.at.2 ∙ sym (is at.at.0 (ap (λ (d : Deck). slice_get d.statements it.left.at) same ∙ at.at.1))
 
   -- a fault that was told
   pub told_fault : (line : ℕ) (Tells Now Failed Failed' : Type 0) → (Tells → Now) → (Failed → Failed') → IsLeftAt deck (files_in before) it.left left own own'

@@ -161,7 +161,7 @@ module _ {E J A F : Type 0} {ghosts : Ghosts F} (meaning : Meaning E J A Bay Job
       by : (rest : List Stated) → rest_of m ≡ rest → HaveFiles m.state.core.names m.state.core.units
       by [] e =
           let g = h.given has_ending in
-          let none : length (drop g.index (stated deck.statements)) ≡ 0 = ap length (sym g.rest ∙ rest_is told bytes left m h.run h.is ∙ e) in
+          let none : length (drop g.index (stated deck.statements)) ≡ 0 = sym g.rest ∙ ap length (rest_is told bytes left m h.run h.is ∙ e) in
           let long = length-drop g.index (stated deck.statements) in
           let within = g.within in
           absurd (omega (arith, none, long, within))

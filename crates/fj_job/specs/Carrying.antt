@@ -47,7 +47,7 @@ pub record HasNotBegun {F : Type 0} {ghosts : Ghosts F} (told : F → Bool) (byt
 -- the runner is at a statement, and the slots are sound for jobs that were given until there
 pub record IsGivenAt {E J A : Type 0} (meaning : Meaning E J A Bay Job Answer) (deck : Deck) (files : Files) (rack : Rack E J A) (run : Run) : Type 0 where
   pub index : ℕ
-  pub rest : run.rest ≡ drop index (stated deck.statements)
+  pub rest : length run.rest ≡ length (drop index (stated deck.statements))
   pub within : index < length (stated deck.statements)
   pub given : HoldsGiven deck.variables (stated deck.statements) files meaning rack index
 

@@ -1,13 +1,14 @@
 -- What a run that met a fault has told: what executing the deck tells, up to one of its statements.
-use Rattle.std.specs.Prelude.{◌≡◌, ◌≢◌, ◌⊎◌, ℕ, Bool, true, false, List, [], ◌++◌, Some, None, IsSome}
+use Rattle.std.specs.Prelude.{◌≡◌, ◌≢◌, ◌⊎◌, ℕ, Bool, true, false, List, [], ◌++◌, Some, None, IsSome, slice_get}
 use Rattle.std.specs.FinSet as set
 use Rattle.fj_outside.specs.Faults.{Rose}
 use Rattle.fj_outside.specs.Holdings.{Holdings}
 use Rattle.fj_statement.specs.declared.deck.Variable.{Variable}
 use Rattle.fj_statement.specs.declared.deck.Deck.{Deck}
+use Rattle.fj_statement.specs.declared.deck.Lined.{Lined}
 use Rattle.fj_plain.specs.State.{State, Files, all_closed, start}
 use Rattle.fj_plain.specs.Telling.{waited, after_tells}
-use Rattle.fj_plain.specs.Statement.{Stated, step, stated, cut}
+use Rattle.fj_plain.specs.Statement.{Stated, begun_in, control_by, step, stated, cut}
 use Rattle.fj_cut.specs.Others.{names_in, file_about, file_renewed}
 use Rattle.fj_cut.specs.Awaiting.{AwaitedUnit}
 use Rattle.fj_cut.specs.Stopping.{IsLeftShort}
@@ -40,12 +41,16 @@ MayReach Untold variables st s = Unit {0}
 MayReach Told variables st s = Unit {0}
 MayReach Carried variables st s = IsSome (step variables st s).1
 
--- a statement of the deck to which the execution comes, and the state just before it
+-- a statement of the deck to which the execution comes, as it begins, and the state just before it
 pub record ComesTo (deck : Deck) (files : Files) : Type 0 where
   pub index : ℕ
   pub statement : Stated
   pub before : State
   pub there : cut deck.variables index (stated deck.statements) (start deck.variables files) ≡ Some (statement, before)
+
+-- it is the one at that place of the deck, as it begins
+abbrev pub BeginsAt : {deck : Deck} {files : Files} → ComesTo deck files → ℕ → Type 0
+BeginsAt {deck} comes place = (lined : Lined) × (slice_get deck.statements place ≡ Some lined) × (comes.statement ≡ begun_in comes.before (lined, control_by lined.what))
 
 -- what unit `*` got, the trace, and the line of a fault of the disk
 abbrev pub fault_report : Bool → ℕ → State → List ℕ

@@ -1,5 +1,5 @@
 -- What the machine and its sink are where a run was cut, and where a deck ended.
-use Rattle.std.specs.Prelude.{◌≡◌, ◌≢◌, ◌⊎◌, ℕ, true, false, List, ◌++◌, Some, None, IfSome, is_some, slice_get, drop}
+use Rattle.std.specs.Prelude.{◌≡◌, ◌≢◌, ◌⊎◌, ℕ, true, false, List, ◌++◌, Some, None, IfSome, is_some, slice_get, length, drop}
 use Rattle.fj_outside.specs.Faults.{Rose}
 use Rattle.fj_outside.specs.Holdings.{Holdings}
 use Rattle.fj_outside.specs.declared.outside.FileStore.{Ghosts}
@@ -29,7 +29,7 @@ use Rattle.fj_items.specs.declared.lost.Lost.TheVariants.{Disk, Sink}
 use Rattle.fj_runner.specs.Machine.{rest_of}
 use Rattle.fj_runner.specs.declared.left.Left.{Left}
 use Rattle.fj_runner.specs.declared.machine.Machine.{Machine}
-use Rattle.fj_job.specs.Cut.{Reach, Untold, Carried, reached, MayReach, ComesTo, AreLeft, IsLearnt}
+use Rattle.fj_job.specs.Cut.{Reach, Untold, Carried, reached, MayReach, ComesTo, BeginsAt, AreLeft, IsLearnt}
 use Rattle.fj_job.specs.Fitting.{LeavesFit}
 
 -- each slot at which a unit has the file is there, and has not stopped
@@ -104,7 +104,7 @@ TookSome deck files old new = (part rest : List ℕ) × IsOutputSoFar deck files
 pub record IsCut {E J A F : Type 0} {ghosts : Ghosts F} (meaning : Meaning E J A Bay Job Answer) (rack : Rack E J A) (held : Holdings) (before now : ℕ) (Tells : Type 0) (old new : List ℕ)
     (deck : Deck) (files : Files) (m : Machine F ghosts) : Type 0 where
   pub comes : ComesTo deck files
-  pub at : slice_get deck.statements m.at ≡ Some comes.statement.0
+  pub at : BeginsAt comes m.at.place
   pub exact : (m.tally.lost ≡ None) ⊎ (m.tally.lost ≡ Some Disk) → IsExact meaning rack held before now Tells old new deck files comes m
   pub holds : (lost : Lost) → m.tally.lost ≡ Some lost → HoldsFiles meaning rack held before now deck files comes Untold m
   pub fit : LeavesFit meaning rack m
@@ -115,8 +115,8 @@ pub record IsCut {E J A F : Type 0} {ghosts : Ghosts F} (meaning : Meaning E J A
 pub record EndsHere {F : Type 0} {ghosts : Ghosts F} (deck : Deck) (files : Files) (m : Machine F ghosts) : Type 0 where
   pub comes : ComesTo deck files
   pub ends : MayReach Carried deck.variables comes.statement comes.before
-  pub at : slice_get deck.statements m.at ≡ Some comes.statement.0
-  pub place : rest_of m ≡ drop comes.index (stated deck.statements)
+  pub at : BeginsAt comes m.at.place
+  pub place : length (rest_of m) ≡ length (drop comes.index (stated deck.statements))
   pub output : (plain_execution deck.variables deck.statements files).output ≡ (reached Carried deck.variables comes.statement comes.before).output
   pub tells : (plain_execution deck.variables deck.statements files).tells ≡ (reached Carried deck.variables comes.statement comes.before).tells
   pub files_are : (plain_execution deck.variables deck.statements files).files ≡ (all_closed (reached Carried deck.variables comes.statement comes.before)).files
@@ -126,7 +126,7 @@ pub record IsLeftAt {F : Type 0} (deck : Deck) (files : Files) (left : Left F) (
   pub comes : ComesTo deck files
   pub reach : Reach
   pub may : MayReach reach deck.variables comes.statement comes.before
-  pub at : slice_get deck.statements left.at ≡ Some comes.statement.0
+  pub at : BeginsAt comes left.at
   pub output : left.core.output ≡ (reached reach deck.variables comes.statement comes.before).output
   pub tells : tells_of left.core.tells ≡ (reached reach deck.variables comes.statement comes.before).tells
   pub files_are : AreLeft deck files comes reach held before now
@@ -135,6 +135,6 @@ pub record IsLeftAt {F : Type 0} (deck : Deck) (files : Files) (left : Left F) (
 -- The sink failed at a statement of the deck, the one at hand: the files are left as they are there, and so far the sink came.
 pub record IsLeftBegun {F : Type 0} (deck : Deck) (files : Files) (left : Left F) (Tells : Type 0) (old new : List ℕ) (held : Holdings) (before now : ℕ) : Type 0 where
   pub comes : ComesTo deck files
-  pub at : slice_get deck.statements left.at ≡ Some comes.statement.0
+  pub at : BeginsAt comes left.at
   pub begun : Tells → TookBegun old new deck files comes
   pub files_are : AreLeft deck files comes Untold held before now

@@ -59,7 +59,7 @@ pub record IsSettled {D F E J A : Type 0} {ghosts : Ghosts F} (tells : D → Typ
   pub core : it.left.core ≡ record (m.state.core) { names = it.left.core.names }
   pub ending : it.left.ending ≡ m.state.ending
   pub over : it.left.over ≡ m.tally.over
-  pub at : it.left.at ≡ m.at
+  pub at : it.left.at ≡ m.at.place
   pub nothing : it.settled ≡ Ok tt → m.tally.lost ≡ None
   pub closed : tells disk → LeavesFit meaning rack m → AreClosed meaning rack m.state.core.units m.kept (held disk) (held disk') (refusals disk) (refusals disk') it.settled
   pub own : tells disk → refusals disk ≤ refusals disk'

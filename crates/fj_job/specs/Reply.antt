@@ -1,5 +1,5 @@
 -- What a run answers, prints and leaves.
-use Rattle.std.specs.Prelude.{◌≡◌, ℕ, zero, suc, pos, ◌+◌, List, [], ◌∷◌, ◌++◌, length, min, sum, filter, codes, Bool, true, false, Some, None, unwrap_or, Result, Ok, Err, if◌then◌else◌}
+use Rattle.std.specs.Prelude.{◌≡◌, ℕ, zero, suc, ◌+◌, List, [], ◌∷◌, ◌++◌, length, min, sum, filter, codes, Bool, true, false, Some, None, unwrap_or, Result, Ok, Err, if◌then◌else◌}
 use Rattle.std.specs.List.{flat_map}
 use Rattle.std.specs.FinMap as map
 use Rattle.fj_value.specs.Condition.{code_of}
@@ -10,6 +10,7 @@ use Rattle.fj_outside.specs.Holdings.{Files as Held}
 use Rattle.fj_statement.specs.declared.deck.Variable.{Variable}
 use Rattle.fj_statement.specs.declared.deck.Deck.{Deck}
 use Rattle.fj_statement.specs.declared.reason.Reason.{Reason}
+use Rattle.fj_statement.specs.Units.{number_from_code}
 use Rattle.fj_deck.specs.Deck.{IsDeck, IsRefused}
 use Rattle.fj_store.specs.Variables.{Variables, value_at}
 use Rattle.fj_plain.specs.State.{Files, Output, Tell, elements}
@@ -44,7 +45,7 @@ abbrev pub open_feed : Output → List ℕ
 open_feed output = if output.is_open then 10 ∷ [] else []
 
 abbrev pub told_line : Tell → List ℕ
-told_line t = trace_text t.line (pos t.unit) t.id (code_of t.condition)
+told_line t = trace_text t.line (number_from_code t.unit) t.id (code_of t.condition)
 
 -- the transfers in the order in which they were told, where they are asked for
 abbrev pub trace_of : Bool → List Tell → List ℕ

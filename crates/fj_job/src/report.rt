@@ -17,7 +17,7 @@ use fj_report::{
     Status, Summary, check_line, status_line, summary_line, trace_line, variable_line,
 };
 use fj_runner::Ending;
-use fj_statement::Variable;
+use fj_statement::{Variable, unit_number};
 use fj_store::Store;
 use fj_value::{Place, Tag, Text, Value};
 use std::alloc::{AllocError, Global};
@@ -66,7 +66,7 @@ fn push_tells(text: &mut Text, tells: &[Tell]) -> Result<(), AllocError>
 {
     'adding: for tell in tells {
         let code = tell.condition.code();
-        trace_line(tell.line, i64::from(tell.unit), Tag(tell.id), code, text)?;
+        trace_line(tell.line, unit_number(tell.unit), Tag(tell.id), code, text)?;
     }
     Ok(())
 }

@@ -2,7 +2,7 @@
 use Rattle.std.proofs.Common.{◌≡◌, ℕ, ◌||◌, Bool, true, false, List, [], Option, refl, sym, ap, ◌∙◌}
 use Rattle.std.specs.List.{list_any}
 use Rattle.fj_value.specs.declared.place.Place.{Place}
-use Rattle.fj_modes.specs.declared.asked.Subject.TheVariants as subject
+use Rattle.fj_statement.specs.declared.unit.Subject.TheVariants as subject
 use Rattle.fj_statement.specs.declared.deck.Variable.{Variable}
 use Rattle.fj_statement.specs.declared.statement.Statement.{Statement}
 use Rattle.fj_statement.specs.declared.statement.Statement.TheVariants as statement
@@ -22,7 +22,7 @@ same_need variables vars named unit_named (statement.CloseUnit u keep iostat) as
 same_need variables vars named unit_named (statement.WaitFor u id iostat) asked = refl
 same_need variables vars named unit_named (statement.Move how u iostat) asked = refl
 same_need variables vars named unit_named (statement.Inquire (subject.Unit u) asked id iostat) is = refl
-same_need variables vars named unit_named (statement.Inquire (subject.File name) asked id iostat) is = ap (λ unit. inquiry_need variables vars unit asked id iostat) is
+same_need variables vars named unit_named (statement.Inquire (subject.File name) asked id iostat) is = ap (λ unit. inquiry_need variables vars unit [] asked id iostat) is
 same_need variables vars named unit_named (statement.Transfer t) asked = refl
 same_need variables vars named unit_named statement.End asked = refl
 

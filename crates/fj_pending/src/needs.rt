@@ -4,7 +4,7 @@ ghost use Rattle.std.specs.List.{list_any};
 ghost use Rattle.fj_store.specs.Storage.{values_of};
 ghost use Rattle.fj_store.specs.Places.{same_place, is_among, has_twice};
 ghost use Rattle.fj_book.specs.Prohibitions.{prohibited};
-ghost use Rattle.fj_plain.specs.Needs.{need_by, if_given, number_of, transfer_need, transfer_places, wanted_places};
+ghost use Rattle.fj_plain.specs.Needs.{need_by, if_given, subject_places, transfer_need, transfer_places, unit_places, wanted_places};
 ghost use Rattle.fj_pending.specs.Plain.{holders};
 ghost use Rattle.fj_pending.specs.Asks.{IsUnitAsked, unit_in};
 ghost use Rattle.fj_pending.specs.Parts.{need_in};
@@ -13,28 +13,35 @@ use crate::pendings::Pendings;
 use crate::places::{any_given, any_if_given, any_in_operand, any_in_transfer, any_wanted};
 use crate::whose::number_given;
 use fj_book::{Needs, RunTest};
-use fj_modes::{Subject, UnitRef, Wanted};
-use fj_statement::{Statement, Transfer, Variable};
+use fj_modes::Wanted;
+use fj_statement::{Statement, Subject, Transfer, UnitRef, Variable};
 use fj_store::{Run, Store};
 use fj_value::{Place, Rule};
-
-/// The number of a unit; `*` has none.
-fn number_of(unit: UnitRef) -> Option<u32>
-    ensures { result ≡ number_of unit }
-{
-    match unit {
-        UnitRef::Star => None,
-        UnitRef::Number(number) => Some(number),
-    }
-}
 
 /// The unit that INQUIRE asks about.
 fn unit_in(about: &Subject, named: Option<u32>) -> Option<u32>
     ensures { result ≡ unit_in named about.now }
 {
     match about {
-        Subject::Unit(unit) => number_of(*unit),
+        Subject::Unit(unit) => unit.number(),
         Subject::File(_) => named,
+    }
+}
+
+/// Whether the place of a unit passes.
+fn any_of_unit<T: RunTest>(unit: UnitRef, test: &T) -> bool
+    ensures { result ≡ list_any (T.passes test.now) (unit_places unit) }
+{
+    any_if_given(unit.place_held(), test)
+}
+
+/// Whether the place of the unit that INQUIRE asks about passes.
+fn any_of_subject<T: RunTest>(about: &Subject, test: &T) -> bool
+    ensures { result ≡ list_any (T.passes test.now) (subject_places about.now) }
+{
+    match about {
+        Subject::Unit(unit) => any_of_unit(*unit, test),
+        Subject::File(_) => false,
     }
 }
 
@@ -125,7 +132,8 @@ fn any_specified<T: RunTest>(transfer: &Transfer, test: &T) -> bool
 fn any_taken<T: RunTest>(variables: &[Variable], transfer: &Transfer, test: &T) -> bool
     ensures { result ≡ list_any (T.passes test.now) (transfer_need variables.now transfer.now).references }
 {
-    any_given(variables, &transfer.rec, test)
+    any_of_unit(transfer.unit, test)
+        || any_given(variables, &transfer.rec, test)
         || any_given(variables, &transfer.pos, test)
         || (!transfer.input && any_in_transfer(variables, transfer, test))
 }
@@ -155,14 +163,14 @@ impl<'a> Needs for Parts<'a> {
                 unit,
                 id: _,
                 iostat: _,
-            } => number_of(*unit),
+            } => unit.number(),
             Statement::Inquire {
                 about,
                 asked: _,
                 id: _,
                 iostat: _,
             } => unit_in(about, self.named),
-            Statement::Transfer(transfer) => number_of(transfer.unit),
+            Statement::Transfer(transfer) => transfer.unit.number(),
             _ => None,
         }
     }
@@ -179,19 +187,27 @@ impl<'a> Needs for Parts<'a> {
     fn any_referenced<T: RunTest>(&self, test: &T) -> bool {
         match self.statement {
             Statement::Assign { to: _, from } => any_in_operand(self.variables, from, test),
-            Statement::WaitFor { id, .. } | Statement::Inquire { id, .. } => {
-                any_given(self.variables, id, test)
+            Statement::OpenUnit { unit, .. }
+            | Statement::CloseUnit { unit, .. }
+            | Statement::Move { unit, .. } => any_of_unit(*unit, test),
+            Statement::WaitFor { unit, id, .. } => {
+                any_of_unit(*unit, test) || any_given(self.variables, id, test)
+            }
+            Statement::Inquire { about, id, .. } => {
+                any_of_subject(about, test) || any_given(self.variables, id, test)
             }
             Statement::Transfer(transfer) => any_taken(self.variables, transfer, test),
-            _ => false,
+            Statement::End => false,
         }
     }
 
     fn any_defined<T: RunTest>(&self, test: &T) -> bool {
         match self.statement {
             Statement::Assign { to, from: _ } => any_in_operand(self.variables, to, test),
-            Statement::OpenUnit { iostat, .. }
-            | Statement::CloseUnit { iostat, .. }
+            Statement::OpenUnit { unit, iostat, .. } => {
+                any_if_given(unit.place_new(), test) || any_if_given(*iostat, test)
+            }
+            Statement::CloseUnit { iostat, .. }
             | Statement::WaitFor { iostat, .. }
             | Statement::Move { iostat, .. } => any_if_given(*iostat, test),
             Statement::Inquire {
@@ -207,6 +223,7 @@ impl<'a> Needs for Parts<'a> {
 
     fn defines_twice(&self) -> bool {
         match self.statement {
+            Statement::OpenUnit { unit, iostat, .. } => are_same(unit.place_new(), *iostat),
             Statement::Inquire {
                 about: _,
                 asked,

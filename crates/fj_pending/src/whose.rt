@@ -10,8 +10,7 @@ ghost use Rattle.fj_pending.specs.Plain.{entries};
 ghost use Rattle.fj_pending.specs.Waits.{waited_of};
 
 use crate::pendings::Pendings;
-use fj_modes::UnitRef;
-use fj_statement::{Operand, Statement};
+use fj_statement::{Operand, Statement, UnitRef};
 use fj_store::Store;
 use fj_value::{Place, Value};
 
@@ -69,9 +68,9 @@ pub(crate) fn number_given(store: &Store, operand: &Option<Operand>) -> Option<i
 fn of_unit(unit: UnitRef) -> Whose
     ensures { (es : List Entry) → waited_of result es ≡ of_unit es (number_of unit) }
 {
-    match unit {
-        UnitRef::Star => Whose::None,
-        UnitRef::Number(number) => Whose::OfUnit(number),
+    match unit.number() {
+        Some(number) => Whose::OfUnit(number),
+        None => Whose::None,
     }
 }
 
@@ -79,12 +78,12 @@ fn of_unit(unit: UnitRef) -> Whose
 fn by_id(unit: UnitRef, id: Option<i64>) -> Whose
     ensures { (es : List Entry) → waited_of result es ≡ waited_by es (number_of unit) id }
 {
-    match unit {
-        UnitRef::Star => Whose::None,
-        UnitRef::Number(number) => match id {
+    match unit.number() {
+        Some(number) => match id {
             Some(id) => Whose::OfId(number, id),
             None => Whose::OfUnit(number),
         },
+        None => Whose::None,
     }
 }
 

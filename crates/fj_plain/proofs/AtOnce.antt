@@ -1,15 +1,18 @@
 -- A transfer that becomes pending, beside the same one carried out at once.
 use Rattle.std.proofs.Common.{◌≡◌, ℕ, Bool, true, false, not, List, [], ◌∷◌, map, Some, None, refl, sym, ap, ◌∙◌}
-use Rattle.std.specs.Prelude.{◌==◌, if◌then◌else◌, is_some}
+use Rattle.std.specs.Prelude.{◌==◌, if◌then◌else◌, is_some, option_and_then}
 use Rattle.fj_value.specs.declared.condition.Condition.{Condition}
 use Rattle.fj_value.specs.declared.condition.Condition.TheVariants.{Fine, EndOfFile, EndOfRecord, Error}
 use Rattle.fj_control.specs.Steps.{Given}
-use Rattle.fj_modes.specs.declared.unit.UnitRef.TheVariants as unit
+use Rattle.fj_statement.specs.declared.unit.UnitRef.{UnitRef}
+use Rattle.fj_statement.specs.declared.unit.UnitRef.TheVariants as unit
+use Rattle.fj_statement.specs.Units.{number_of}
 use Rattle.fj_transfer.specs.Transfer.{Done, transfer_by, unfitness}
 use Rattle.fj_statement.specs.declared.deck.Variable.{Variable}
 use Rattle.fj_statement.specs.declared.statement.Transfer.{Transfer}
 use Rattle.fj_statement.specs.declared.statement.Statement.TheVariants as statement
 use Rattle.fj_plain.specs.Transfers.{moved_by, spec_of, layout_of, unless_halted, halt_behind, unless_refused, on_unit, transfer_at}
+use Rattle.fj_list.specs.declared.moved.Moved.{Moved}
 use Rattle.fj_plain.specs.State.{State, Unit, found, with_unit}
 use Rattle.fj_plain.specs.Statement.{own}
 use Rattle.fj_plain.specs.UnitLaws.{joined, connections, later, at_once}
@@ -50,12 +53,20 @@ module _ (control : ℕ → List Given) (variables : List Variable) (s : State) 
       fit : Condition
       fit = unfitness u.connection.modes (layout_of variables (moved_by variables s t).cells t.control) t.input (is_some t.advance) (is_some t.rec) (is_some t.pos)
 
+-- of a unit that has a number
+pub numbered_at : (control : ℕ → List Given) (variables : List Variable) (s : State) (t : Transfer) (moved : Moved) (ref : UnitRef) (n : ℕ) → number_of ref ≡ Some n
+    → transfer_at control variables s t moved ref ≡ on_unit control variables s t moved (found s.units n)
+numbered_at control variables s t moved unit.Star n e = cc
+numbered_at control variables s t moved (unit.Number m) n e = ap (λ o. on_unit control variables s t moved (option_and_then (found s.units) o)) e
+numbered_at control variables s t moved (unit.Held place m) n e = ap (λ o. on_unit control variables s t moved (option_and_then (found s.units) o)) e
+numbered_at control variables s t moved (unit.New place m) n e = ap (λ o. on_unit control variables s t moved (option_and_then (found s.units) o)) e
+
 pub as_at_once : (control : ℕ → List Given) (variables : List Variable) (s : State) (t : Transfer) (n : ℕ) (u : Unit)
-    → t.unit ≡ unit.Number n → found s.units n ≡ Some u → u.connection.modes.asynchronous ≡ true → u.halt ≡ None
+    → number_of t.unit ≡ Some n → found s.units n ≡ Some u → u.connection.modes.asynchronous ≡ true → u.halt ≡ None
     → connections (own control variables s (statement.Transfer (later t))).0 ≡ connections (own control variables s (statement.Transfer (at_once t))).0
 as_at_once control variables s t n u is at allowed halt =
-    ap (λ ref. connections (transfer_at control variables s (later t) (moved_by variables s t) ref).0) is
+    ap (λ (x : State × Condition). connections x.0) (numbered_at control variables s (later t) (moved_by variables s t) t.unit n is)
     ∙ ap (λ o. connections (on_unit control variables s (later t) (moved_by variables s t) o).0) at
     ∙ unit_alike control variables s t u halt allowed
     ∙ ap (λ o. connections (on_unit control variables s (at_once t) (moved_by variables s t) o).0) (sym at)
-    ∙ ap (λ ref. connections (transfer_at control variables s (at_once t) (moved_by variables s t) ref).0) (sym is)
+    ∙ ap (λ (x : State × Condition). connections x.0) (sym (numbered_at control variables s (at_once t) (moved_by variables s t) t.unit n is))

@@ -20,10 +20,10 @@ use Rattle.fj_modes.specs.Modes.{settled}
 use Rattle.fj_modes.specs.Modes as mode
 use Rattle.fj_modes.specs.declared.modes.Modes.{Modes}
 use Rattle.fj_modes.specs.declared.specifiers.OpenSpec.{OpenSpec}
-use Rattle.fj_modes.specs.declared.unit.UnitRef.{UnitRef}
-use Rattle.fj_modes.specs.declared.unit.UnitRef.TheVariants as unit
-use Rattle.fj_modes.specs.declared.unit.Motion.{Motion}
-use Rattle.fj_modes.specs.declared.unit.Motion.TheVariants as motion
+use Rattle.fj_statement.specs.declared.unit.UnitRef.{UnitRef}
+use Rattle.fj_statement.specs.declared.unit.UnitRef.TheVariants as unit
+use Rattle.fj_modes.specs.declared.motion.Motion.{Motion}
+use Rattle.fj_modes.specs.declared.motion.Motion.TheVariants as motion
 use Rattle.fj_list.specs.declared.moved.Moved.{Moved}
 use Rattle.fj_connect.specs.Connection.{Connection}
 use Rattle.fj_connect.specs.Opening.{opened_file}
@@ -39,14 +39,15 @@ use Rattle.fj_store.specs.Tables.{element_at, element_in, row_with, with_element
 use Rattle.fj_store.specs.Variables.{Variables, value_at, with_value, undefined_at}
 use Rattle.fj_store.proofs.TableLemmas.{places_tell, at_same, at_other, with_missing}
 use Rattle.fj_plain.specs.Items.{kind_of, value_for, given_back, operand_places, value_of}
+use Rattle.fj_statement.specs.Units.{is_outside, number_from_code}
 use Rattle.fj_plain.specs.Needs.{need, holders, number_of, given_number, unit_asked}
 use Rattle.fj_plain.specs.Inquiring.{inquired}
 use Rattle.fj_plain.specs.Telling.{count_for, with_size, with_input, with_inputs, is_asynchronous, waited, condition_of, after_tells}
 use Rattle.fj_plain.specs.Transfers.{without_values, with_number, moved_by, spec_of, layout_of, refusal, carried_out, made_pending, transferred, unless_refused, on_unit, transfer_at}
 use Rattle.fj_plain.specs.Transfers as transfer
-use Rattle.fj_plain.specs.Connecting.{file_due, keeps_file, with_modes, is_taken, most_units, with_opened, connects, without_old, opens_with, opens, closes, closes_anyway, moves}
+use Rattle.fj_plain.specs.Connecting.{file_due, keeps_file, with_modes, is_taken, most_units, with_opened, connects, without_old, opens_with, opens, opens_unit, closes, closes_anyway, moves}
 use Rattle.fj_plain.specs.State.{State, Files, Unit, Entry, elements, found, disconnected, keeps, start}
-use Rattle.fj_plain.specs.Statement.{Stated, Ran, Ending, converted, assigned, about, file_asked, unit_at, iostat_of, own, instead, acts, goes_on, step, executed}
+use Rattle.fj_plain.specs.Statement.{Stated, Ran, Ending, begun_in, if_numbered, new_place, with_new_unit, converted, assigned, about, file_asked, unit_at, iostat_of, own, instead, acts, goes_on, step, executed}
 use Rattle.fj_plain.proofs.Lists.{no}
 use Rattle.fj_plain.specs.VariableLaws.{AreAsDeclared}
 use Rattle.fj_plain.specs.Reaching.{reached}
@@ -231,6 +232,14 @@ module _ (variables : List Variable) where
       either (keeps_file u spec spec.file) (with_modes s u (mode.changed u.connection.modes spec)) (opens_with s n spec (Some u) (settled spec)) s
       (modes_leave s u (mode.changed u.connection.modes spec)) (opens_with_leaves s n spec (Some u) (settled spec))
 
+  opens_unit_leaves : (s : State) (u : UnitRef) (n : ℕ) (spec : OpenSpec) (old : Option Unit) → (opens_unit s u n spec old).0.vars ≡ s.vars
+  opens_unit_leaves s u n spec None = either (is_outside u) (s, Error 3) (opens s n spec None) s refl (opens_leaves s n spec None)
+  opens_unit_leaves s u n spec (Some old) = opens_leaves s n spec (Some old)
+
+  numbered_leaves : (s : State) (u : UnitRef) (spec : OpenSpec) (o : Option ℕ) → (if_numbered s o (λ n. opens_unit s u n spec (found s.units n))).0.vars ≡ s.vars
+  numbered_leaves s u spec None = refl
+  numbered_leaves s u spec (Some n) = opens_unit_leaves s u n spec (found s.units n)
+
   closes_leaves : (s : State) (keep : Option Bool) (old : Option Unit) → (closes s keep old).0.vars ≡ s.vars
   closes_leaves s keep None = refl
   closes_leaves s keep (Some u) = either (unwrap_or keep false && u.connection.modes.scratch) (s, Error 4) (disconnected s u (unwrap_or keep (keeps u)), Fine) s refl refl
@@ -274,13 +283,15 @@ module _ (variables : List Variable) where
   transfer_so : (control : ℕ → List Given) (s : State) (t : Transfer) (ref : UnitRef) → Are s.vars → Are (transfer_at control variables s t (moved_by variables s t) ref).0.vars
   transfer_so control s t unit.Star are = are
   transfer_so control s t (unit.Number n) are = unit_so control s t (moved_by variables s t) (found s.units n) are
+  transfer_so control s t (unit.Held place n) are = unit_so control s t (moved_by variables s t) (found s.units n) are
+  transfer_so control s t (unit.New place n) are = unit_so control s t (moved_by variables s t) (found s.units n) are
 
   -- ---- a statement
 
   own_so : (control : ℕ → List Given) (s : State) (what : Statement) → Are s.vars → Are (own control variables s what).0.vars
   own_so control s (statement.Assign to from) are = assigned_so (operand_places variables to) (value_of s.vars from) s.vars are
-  own_so control s (statement.OpenUnit unit.Star spec iostat) are = are
-  own_so control s (statement.OpenUnit (unit.Number n) spec iostat) are = left_so (opens s n spec (found s.units n)).0.vars s.vars (opens_leaves s n spec (found s.units n)) are
+  own_so control s (statement.OpenUnit u spec iostat) are =
+      left_so (if_numbered s (number_of u) (λ n. opens_unit s u n spec (found s.units n))).0.vars s.vars (numbered_leaves s u spec (number_of u)) are
   own_so control s (statement.CloseUnit u keep iostat) are =
       left_so (closes s keep (unit_at s (number_of u))).0.vars s.vars (closes_leaves s keep (unit_at s (number_of u))) are
   own_so control s (statement.WaitFor u id iostat) are = are
@@ -312,7 +323,8 @@ module _ (variables : List Variable) where
   goes_so control line what s None are =
       let es = waited s what in
       let done = acts control variables (after_tells variables line es s) what (condition_of es) in
-      number_so (iostat_of what) (code_of done.1) done.0.vars (acts_so control (after_tells variables line es s) what (condition_of es) (told_so es s.vars are))
+      number_so (iostat_of what) (code_of done.1) (with_new_unit variables what done.1 done.0.new_unit done.0.vars)
+      (number_so (new_place what done.1) (number_from_code done.0.new_unit) done.0.vars (acts_so control (after_tells variables line es s) what (condition_of es) (told_so es s.vars are)))
 
   step_so : (st : Stated) (s : State) → Are s.vars → Are (step variables st s).0.vars
   unfolding step
@@ -320,12 +332,12 @@ module _ (variables : List Variable) where
 
   executed_so : (sts : List Stated) (s : State) → Are s.vars → Are (executed variables sts s).state.vars
   executed_so [] s are = are
-  executed_so (st ∷ more) s are = by (executed_so more (step variables st s).0 (step_so st s are)) (step variables st s).1
+  executed_so (st ∷ more) s are = by (executed_so more (step variables (begun_in s st) s).0 (step_so (begun_in s st) s are)) (step variables (begun_in s st) s).1
     where
-      by : Are (executed variables more (step variables st s).0).state.vars → (o : Option Ending)
-          → Are (elim o as (λ _. Ran) [ None ↦ executed variables more (step variables st s).0 | Some e ↦ record { state = (step variables st s).0; ending = Some e } ]).state.vars
+      by : Are (executed variables more (step variables (begun_in s st) s).0).state.vars → (o : Option Ending)
+          → Are (elim o as (λ _. Ran) [ None ↦ executed variables more (step variables (begun_in s st) s).0 | Some e ↦ record { state = (step variables (begun_in s st) s).0; ending = Some e } ]).state.vars
       by rest None = rest
-      by rest (Some e) = step_so st s are
+      by rest (Some e) = step_so (begun_in s st) s are
 
   pub reached_so : (sts : List Stated) (files : Files) → AreAsDeclared variables (reached variables sts files).vars
   reached_so sts files = executed_so sts (start variables files) begun_so

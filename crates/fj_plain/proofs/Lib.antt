@@ -1,4 +1,5 @@
 pub mod Lists
+pub mod Begun
 pub mod Tells
 pub mod Walk
 pub mod Places

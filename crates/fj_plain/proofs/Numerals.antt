@@ -8,7 +8,7 @@ use Rattle.fj_value.proofs.DigitLaws.{numeral-step, numeral-zero}
 use Rattle.fj_value.specs.Digits.{numeral}
 use Rattle.fj_statement.specs.declared.deck.Variable.{Variable}
 use Rattle.fj_plain.specs.State.{State}
-use Rattle.fj_plain.specs.Statement.{Stated, Ran, Ending, step, executed}
+use Rattle.fj_plain.specs.Statement.{Stated, Ran, Ending, begun_in, step, executed}
 
 -- a numeral by so many divisions at the most
 abbrev pub numeral_by : ℕ → ℕ → ℕ → List ℕ
@@ -33,6 +33,6 @@ numeral_in (suc turns) base n low e =
     ]
 
 -- a statement that does not end the deck is carried out, and then the others
-pub one_first : (variables : List Variable) (st : Stated) (more : List Stated) (s after : State) → step variables st s ≡ (after, None) → executed variables (st ∷ more) s ≡ executed variables more after
+pub one_first : (variables : List Variable) (st : Stated) (more : List Stated) (s after : State) → step variables (begun_in s st) s ≡ (after, None) → executed variables (st ∷ more) s ≡ executed variables more after
 one_first variables st more s after e =
     ap (λ (done : State × Option Ending). elim done.1 as (λ _. Ran) [ None ↦ executed variables more done.0 | Some ending ↦ record { state = done.0; ending = Some ending } ]) e

@@ -11,11 +11,11 @@ use Rattle.fj_book.specs.Prohibitions.{prohibited}
 use Rattle.fj_plain.specs.Needs.{need, holders, number_of}
 use Rattle.fj_plain.specs.Telling.{waited, condition_of, is_asynchronous, is_told, of_unit, after_tells}
 use Rattle.fj_plain.specs.State.{State, Files, start}
-use Rattle.fj_plain.specs.Statement.{Stated, Ran, Ending, step, acts, goes_on, executed, completed}
+use Rattle.fj_plain.specs.Statement.{Stated, Ran, Ending, begun_in, step, acts, goes_on, executed, completed}
 use Rattle.fj_plain.specs.Reaching.{reached}
 use Rattle.fj_plain.proofs.Tells.{rising, Chosen, chosen, emptied, emptied_left, left, left_over, none_left, no_tells}
 use Rattle.fj_plain.proofs.Walk.{Ways, acts_walk}
-use Rattle.fj_plain.proofs.Sound.{Sound, none_of, sound_start, sound_defined, sound_tells, sound_moved, sound_left, sound_opened, sound_closed, sound_begun}
+use Rattle.fj_plain.proofs.Sound.{Sound, none_of, sound_start, sound_completed, sound_defined, sound_tells, sound_moved, sound_left, sound_opened, sound_closed, sound_begun}
 
 -- the state in which a statement acts
 abbrev pub told : List Variable → ℕ → Statement → State → State
@@ -74,16 +74,19 @@ sound_step variables st s h = by (prohibited s.vars (holders s.book) (need varia
     by (Some rule) e = h
     by None e =
         let done = acts st.1 variables (told variables st.0.line st.0.what s) st.0.what (condition_of (waited s st.0.what)) in
-        sound_defined done.0 (completed variables st.0.line st.0.what done).0.vars
+        sound_completed done.0 (completed variables st.0.line st.0.what done).0.vars (completed variables st.0.line st.0.what done).0.new_unit
         (acts_walk st.1 variables st.0.what (told variables st.0.line st.0.what s) Sound (condition_of (waited s st.0.what)) (sound_ways variables st.0.line st.0.what s e h))
 
 pub sound_executed : (variables : List Variable) (sts : List Stated) (s : State) → Sound s → Sound (executed variables sts s).state
 sound_executed variables [] s h = h
-sound_executed variables (st ∷ more) s h = by (sound_executed variables more (step variables st s).0 (sound_step variables st s h)) (step variables st s).1
+sound_executed variables (st ∷ more) s h = by (sound_executed variables more after (sound_step variables (begun_in s st) s h)) (step variables (begun_in s st) s).1
   where
-    by : Sound (executed variables more (step variables st s).0).state → (o : Option Ending) → Sound (elim o as (λ _. Ran) [ None ↦ executed variables more (step variables st s).0 | Some e ↦ record { state = (step variables st s).0; ending = Some e } ]).state
+    after : State
+    after = (step variables (begun_in s st) s).0
+
+    by : Sound (executed variables more after).state → (o : Option Ending) → Sound (elim o as (λ _. Ran) [ None ↦ executed variables more after | Some e ↦ record { state = after; ending = Some e } ]).state
     by rest None = rest
-    by rest (Some e) = sound_step variables st s h
+    by rest (Some e) = sound_step variables (begun_in s st) s h
 
 pub sound_reached : (variables : List Variable) (sts : List Stated) (files : Files) → Sound (reached variables sts files)
 sound_reached variables sts files = sound_executed variables sts (start variables files) (sound_start variables files)

@@ -7,7 +7,9 @@ use Rattle.fj_value.specs.declared.condition.Condition.{Condition}
 use Rattle.fj_value.specs.declared.condition.Condition.TheVariants.{Fine, EndOfFile, EndOfRecord, Error}
 use Rattle.fj_control.specs.Steps.{Given}
 use Rattle.fj_connect.specs.Connection.{Connection}
-use Rattle.fj_modes.specs.declared.unit.UnitRef.TheVariants as unit
+use Rattle.fj_statement.specs.declared.unit.UnitRef.{UnitRef}
+use Rattle.fj_statement.specs.declared.unit.UnitRef.TheVariants as unit
+use Rattle.fj_statement.specs.Units.{number_of}
 use Rattle.fj_transfer.specs.Transfer.{Done, transfer_by}
 use Rattle.fj_statement.specs.declared.deck.Variable.{Variable}
 use Rattle.fj_statement.specs.declared.statement.Transfer.{Transfer}
@@ -17,6 +19,7 @@ use Rattle.fj_plain.specs.Transfers.{moved_by, spec_of, layout_of, refusal, unle
 use Rattle.fj_plain.specs.State.{State, Unit, found}
 use Rattle.fj_plain.specs.Statement.{own}
 use Rattle.fj_plain.specs.UnitLaws.{Ascends, joined, connections}
+use Rattle.fj_plain.proofs.AtOnce.{numbered_at}
 use Rattle.fj_plain.proofs.Units.{swap, swap_joined}
 
 all_same : (f : Unit → Unit) (us : List Unit) → All (λ (x : Unit). joined (f x) ≡ joined x) us → map joined (map f us) ≡ map joined us
@@ -45,8 +48,8 @@ module _ (control : ℕ → List Given) (variables : List Variable) (s : State) 
   fitting_same EndOfRecord = refl
   fitting_same (Error code) = refl
 
-  pub skipped_same : t.unit ≡ unit.Number n → connections (own control variables s (statement.Transfer t)).0 ≡ connections s
+  pub skipped_same : number_of t.unit ≡ Some n → connections (own control variables s (statement.Transfer t)).0 ≡ connections s
   skipped_same is =
-      ap (λ ref. connections (transfer_at control variables s t (moved_by variables s t) ref).0) is
+      ap (λ (x : State × Condition). connections x.0) (numbered_at control variables s t (moved_by variables s t) t.unit n is)
       ∙ ap (λ o. connections (on_unit control variables s t (moved_by variables s t) o).0) at
       ∙ fitting_same (refusal u.connection.modes t (layout_of variables (moved_by variables s t).cells t.control))

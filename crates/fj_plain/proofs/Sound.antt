@@ -69,6 +69,9 @@ sound_start variables files = record {
 pub sound_defined : (s : State) (v : Variables) → Sound s → Sound (record s { vars = v })
 sound_defined s v h = record { rise = h.rise; below = h.below; apart = h.apart; skip = h.skip; join = h.join; halts = h.halts; ascend = h.ascend; few = h.few; one = h.one; away = h.away }
 
+pub sound_completed : (s : State) (v : Variables) (new : ℕ) → Sound s → Sound (record s { vars = v; new_unit = new })
+sound_completed s v new h = record { rise = h.rise; below = h.below; apart = h.apart; skip = h.skip; join = h.join; halts = h.halts; ascend = h.ascend; few = h.few; one = h.one; away = h.away }
+
 -- ---- tells
 
 pub sound_tells : (variables : List Variable) (line : ℕ) (s : State) (q : Entry → Bool) → Whole q s.book → Sound s → Sound (after_tells variables line (filter q s.book) s)

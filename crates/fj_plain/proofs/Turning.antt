@@ -7,8 +7,8 @@ use Rattle.std.proofs.lemmas.List.Elements.{All-head, All-tail, All-map}
 use Rattle.fj_value.specs.declared.condition.Condition.{Condition}
 use Rattle.fj_value.specs.declared.condition.Condition.TheVariants.{Fine, EndOfFile, EndOfRecord, Error}
 use Rattle.fj_value.specs.declared.condition.Rule.{Rule}
-use Rattle.fj_modes.specs.declared.unit.UnitRef.{UnitRef}
-use Rattle.fj_modes.specs.declared.unit.UnitRef.TheVariants as unit
+use Rattle.fj_statement.specs.declared.unit.UnitRef.{UnitRef}
+use Rattle.fj_statement.specs.declared.unit.UnitRef.TheVariants as unit
 use Rattle.fj_modes.specs.Modes.{usual_edit}
 use Rattle.fj_control.specs.Steps.{Given}
 use Rattle.fj_transfer.specs.Change.{changed}
@@ -24,12 +24,13 @@ use Rattle.fj_plain.specs.Needs.{need, holders, number_of}
 use Rattle.fj_plain.specs.Telling.{waited, condition_of, is_asynchronous, tell_of}
 use Rattle.fj_plain.specs.Transfers.{moved_by, spec_of, layout_of, refusal, entry_of, unless_halted, carried_out, made_pending, unless_refused, on_unit, star_limit, printed_to, transfer_at}
 use Rattle.fj_plain.specs.State.{State, Files, Unit, Entry, found, is_fine, start}
-use Rattle.fj_plain.specs.Statement.{Stated, Ran, Ending, step, own, acts, goes_on, executed, unit_at, stated, control_by, prohibition}
+use Rattle.fj_plain.specs.Statement.{Stated, Ran, Ending, begun_in, step, own, acts, goes_on, executed, unit_at, stated, control_by, prohibition}
 use Rattle.fj_plain.specs.Reaching.{is_later, fits, becomes_pending}
 use Rattle.fj_plain.specs.PendingLaws.{Turns}
 use Rattle.fj_plain.proofs.Lists.{no, pairs_none}
 use Rattle.fj_plain.proofs.Tells.{rising, chosen, left}
 use Rattle.fj_plain.proofs.Walk.{Ways, acts_walk}
+use Rattle.fj_plain.proofs.Begun.{with_later}
 use Rattle.fj_plain.proofs.Reached.{told, told_book, later_waits, later_told}
 
 -- the pending transfers are the same, and so are the next identifier and what was told
@@ -81,6 +82,8 @@ module _ (control : ℕ → List Given) (variables : List Variable) (s : State) 
       star true k = unchanged
       star false k = no k
   ref_out (unit.Number n) = unit_out (found s.units n)
+  ref_out (unit.Held place n) = unit_out (found s.units n)
+  ref_out (unit.New place n) = unit_out (found s.units n)
 
   later_out : Out s (becomes_pending variables s (statement.Transfer t)) (own control variables s (statement.Transfer t)).0
   later_out = subst (λ b. Out s (b && fits variables s t (unit_at s (number_of t.unit))) (own control variables s (statement.Transfer t)).0) (sym later) (ref_out t.unit)
@@ -189,11 +192,14 @@ quiet_step variables st s h q = by (prohibited s.vars (holders s.book) (need var
 quiet_executed : (variables : List Variable) (sts : List Stated) (s : State) → All (λ (st : Stated). is_later st.0.what ≡ false) sts → Quiet s → Quiet (executed variables sts s).state
 quiet_executed variables [] s h q = q
 quiet_executed variables (st ∷ more) s h q =
-    by (quiet_step variables st s (All-head (λ (x : Stated). is_later x.0.what ≡ false) st more h) q)
-    (quiet_executed variables more (step variables st s).0 (All-tail (λ (x : Stated). is_later x.0.what ≡ false) st more h)) (step variables st s).1
+    by (quiet_step variables (begun_in s st) s (with_later _ st.0.what ∙ All-head (λ (x : Stated). is_later x.0.what ≡ false) st more h) q)
+    (quiet_executed variables more (step variables (begun_in s st) s).0 (All-tail (λ (x : Stated). is_later x.0.what ≡ false) st more h)) (step variables (begun_in s st) s).1
   where
-    by : Quiet (step variables st s).0 → (Quiet (step variables st s).0 → Quiet (executed variables more (step variables st s).0).state) → (o : Option Ending)
-        → Quiet (elim o as (λ _. Ran) [ None ↦ executed variables more (step variables st s).0 | Some e ↦ record { state = (step variables st s).0; ending = Some e } ]).state
+    after : State
+    after = (step variables (begun_in s st) s).0
+
+    by : Quiet after → (Quiet after → Quiet (executed variables more after).state) → (o : Option Ending)
+        → Quiet (elim o as (λ _. Ran) [ None ↦ executed variables more after | Some e ↦ record { state = after; ending = Some e } ]).state
     by here rest None = rest here
     by here rest (Some e) = here
 

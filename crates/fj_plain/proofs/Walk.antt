@@ -12,10 +12,10 @@ use Rattle.fj_modes.specs.Modes as mode
 use Rattle.fj_modes.specs.declared.modes.Modes.{Modes}
 use Rattle.fj_modes.specs.declared.specifiers.OpenSpec.{OpenSpec}
 use Rattle.fj_modes.specs.declared.specifiers.FileStatus.TheVariants.{Unknown}
-use Rattle.fj_modes.specs.declared.unit.UnitRef.{UnitRef}
-use Rattle.fj_modes.specs.declared.unit.UnitRef.TheVariants as unit
-use Rattle.fj_modes.specs.declared.unit.Motion.{Motion}
-use Rattle.fj_modes.specs.declared.unit.Motion.TheVariants as motion
+use Rattle.fj_statement.specs.declared.unit.UnitRef.{UnitRef}
+use Rattle.fj_statement.specs.declared.unit.UnitRef.TheVariants as unit
+use Rattle.fj_modes.specs.declared.motion.Motion.{Motion}
+use Rattle.fj_modes.specs.declared.motion.Motion.TheVariants as motion
 use Rattle.fj_list.specs.declared.moved.Moved.{Moved}
 use Rattle.fj_connect.specs.Connection.{Connection}
 use Rattle.fj_connect.specs.Opening.{bytes_opened, connected_to, opened_file}
@@ -34,9 +34,10 @@ use Rattle.fj_statement.specs.declared.statement.Statement.TheVariants as statem
 use Rattle.fj_store.specs.Variables.{Variables}
 use Rattle.fj_plain.specs.Telling.{is_asynchronous}
 use Rattle.fj_plain.specs.Transfers.{moved_by, spec_of, layout_of, refusal, refused, with_values, carried_out, made_pending, transferred, unless_refused, on_unit, star_limit, printed_to, on_star, transfer_at, transfers_nothing}
-use Rattle.fj_plain.specs.Connecting.{file_due, keeps_file, with_modes, is_taken, most_units, with_opened, connects, without_old, opens_with, opens, closes, closes_anyway, with_move, moves}
+use Rattle.fj_plain.specs.Connecting.{file_due, keeps_file, with_modes, is_taken, most_units, with_opened, connects, without_old, opens_with, opens, opens_unit, closes, closes_anyway, with_move, moves}
 use Rattle.fj_plain.specs.State.{State, Unit, Output, found, with_unit, inserted, without_unit, without_file, disconnected, keeps, all_closed}
-use Rattle.fj_plain.specs.Statement.{own, instead, acts}
+use Rattle.fj_statement.specs.Units.{is_outside, number_of}
+use Rattle.fj_plain.specs.Statement.{own, instead, acts, if_numbered, unit_at}
 use Rattle.fj_plain.proofs.Lists.{none_passes, all_both}
 use Rattle.fj_bay.proofs.Keeping.{moved_kept, transfer_kept}
 use Rattle.fj_plain.proofs.Tells.{emptied}
@@ -155,6 +156,14 @@ module _ (control : ℕ → List Given) (variables : List Variable) (what : Stat
       by true = with_modes_walk n u (mode.changed u.connection.modes spec) k
       by false = opens_with_walk n spec (Some u) (settled spec) k e
 
+  opens_unit_walk : (u : UnitRef) (n : ℕ) (spec : OpenSpec) (old : Option Unit) → found s.units n ≡ old → emptied what ≡ Some n → P (opens_unit s u n spec old).0
+  opens_unit_walk u n spec None k e = by (is_outside u)
+    where
+      by : (b : Bool) → P (if b then (s, Error 3) else opens s n spec None).0
+      by true = w.same
+      by false = opens_walk n spec None k e
+  opens_unit_walk u n spec (Some old) k e = opens_walk n spec (Some old) k e
+
   -- ---- CLOSE and the motions
 
   closes_walk : (n : ℕ) (keep : Option Bool) (old : Option Unit) → found s.units n ≡ old → emptied what ≡ Some n → P (closes s keep old).0
@@ -228,22 +237,30 @@ module _ (control : ℕ → List Given) (variables : List Variable) (what : Stat
   transfer_walk : (t : Transfer) (ref : UnitRef) → what ≡ statement.Transfer t → P (transfer_at control variables s t (moved_by variables s t) ref).0
   transfer_walk t unit.Star is = star_walk t (moved_by variables s t) (spec_of variables s t (moved_by variables s t).cells)
   transfer_walk t (unit.Number n) is = unit_walk t n (found s.units n) is refl
+  transfer_walk t (unit.Held place n) is = unit_walk t n (found s.units n) is refl
+  transfer_walk t (unit.New place n) is = unit_walk t n (found s.units n) is refl
 
   nothing_walk : (t : Transfer) → P (transfers_nothing variables s t)
   nothing_walk t = w.defines s (transfers_nothing variables s t).vars w.same
 
 pub own_walk : (control : ℕ → List Given) (variables : List Variable) (what : Statement) (s : State) (P : State → Type 0) → Ways variables what s P → P (own control variables s what).0
 own_walk control variables (statement.Assign to from) s P w = w.defines s (own control variables s (statement.Assign to from)).0.vars w.same
-own_walk control variables (statement.OpenUnit unit.Star spec iostat) s P w = w.same
-own_walk control variables (statement.OpenUnit (unit.Number n) spec iostat) s P w =
-    opens_walk control variables (statement.OpenUnit (unit.Number n) spec iostat) s P w n spec (found s.units n) refl refl
-own_walk control variables (statement.CloseUnit unit.Star keep iostat) s P w = w.same
-own_walk control variables (statement.CloseUnit (unit.Number n) keep iostat) s P w =
-    closes_walk control variables (statement.CloseUnit (unit.Number n) keep iostat) s P w n keep (found s.units n) refl refl
+own_walk control variables (statement.OpenUnit u spec iostat) s P w = by (number_of u) refl
+  where
+    by : (o : Option ℕ) → number_of u ≡ o → P (if_numbered s o (λ n. opens_unit s u n spec (found s.units n))).0
+    by None e = w.same
+    by (Some n) e = opens_unit_walk control variables (statement.OpenUnit u spec iostat) s P w u n spec (found s.units n) refl e
+own_walk control variables (statement.CloseUnit u keep iostat) s P w = by (number_of u) refl
+  where
+    by : (o : Option ℕ) → number_of u ≡ o → P (closes s keep (unit_at s o)).0
+    by None e = w.same
+    by (Some n) e = closes_walk control variables (statement.CloseUnit u keep iostat) s P w n keep (found s.units n) refl e
 own_walk control variables (statement.WaitFor u id iostat) s P w = w.same
-own_walk control variables (statement.Move how unit.Star iostat) s P w = w.same
-own_walk control variables (statement.Move how (unit.Number n) iostat) s P w =
-    moves_walk control variables (statement.Move how (unit.Number n) iostat) s P w n how (found s.units n) refl
+own_walk control variables (statement.Move how u iostat) s P w = by (number_of u)
+  where
+    by : (o : Option ℕ) → P (moves s how (unit_at s o)).0
+    by None = w.same
+    by (Some n) = moves_walk control variables (statement.Move how u iostat) s P w n how (found s.units n) refl
 own_walk control variables (statement.Inquire subject asked id iostat) s P w = w.defines s (own control variables s (statement.Inquire subject asked id iostat)).0.vars w.same
 own_walk control variables (statement.Transfer t) s P w = transfer_walk control variables (statement.Transfer t) s P w t t.unit refl
 own_walk control variables statement.End s P w = w.closes refl
@@ -251,9 +268,11 @@ own_walk control variables statement.End s P w = w.closes refl
 instead_walk : (control : ℕ → List Given) (variables : List Variable) (what : Statement) (s : State) (P : State → Type 0) → Ways variables what s P → P (instead variables s what)
 instead_walk control variables (statement.Assign to from) s P w = w.same
 instead_walk control variables (statement.OpenUnit u spec iostat) s P w = w.same
-instead_walk control variables (statement.CloseUnit unit.Star keep iostat) s P w = w.same
-instead_walk control variables (statement.CloseUnit (unit.Number n) keep iostat) s P w =
-    anyway_walk control variables (statement.CloseUnit (unit.Number n) keep iostat) s P w n keep (found s.units n) refl refl
+instead_walk control variables (statement.CloseUnit u keep iostat) s P w = by (number_of u) refl
+  where
+    by : (o : Option ℕ) → number_of u ≡ o → P (closes_anyway s keep (unit_at s o))
+    by None e = w.same
+    by (Some n) e = anyway_walk control variables (statement.CloseUnit u keep iostat) s P w n keep (found s.units n) refl e
 instead_walk control variables (statement.WaitFor u id iostat) s P w = w.same
 instead_walk control variables (statement.Move how u iostat) s P w = w.same
 instead_walk control variables (statement.Inquire subject asked id iostat) s P w = w.same

@@ -8,14 +8,14 @@ use Rattle.fj_value.specs.declared.condition.Condition.TheVariants.{Fine, EndOfF
 use Rattle.fj_modes.specs.declared.specifiers.FileStatus.TheVariants.{Scratch}
 use Rattle.fj_modes.specs.declared.specifiers.Access.TheVariants.{Direct}
 use Rattle.fj_modes.specs.declared.specifiers.Action.TheVariants as action
-use Rattle.fj_modes.specs.declared.unit.Motion.TheVariants.{Rewind, Flush}
+use Rattle.fj_modes.specs.declared.motion.Motion.TheVariants.{Rewind, Flush}
 use Rattle.fj_statement.specs.declared.statement.Control.TheVariants.{Unformatted}
 use Rattle.fj_statement.specs.declared.statement.Statement.TheVariants as statement
 use Rattle.fj_plain.specs.State.{Tell}
 use Rattle.fj_plain.specs.Statement.{execution, ended, error_stop, prohibition, Ending, Result}
 use Rattle.fj_plain.specs.DeckWords.{scalar, integers, at, var, whole, two_lines, no_files, file, lines_from, opening, replacing, old_later, plain_open, wait, «end», assign, transfer, i_transfer, a_transfer, now, later, by_i, by_a, bare, four_reads, read_later}
 use Rattle.fj_list.specs.ListText.{text_of}
-use Rattle.fj_modes.specs.declared.unit.UnitRef.TheVariants as unit
+use Rattle.fj_statement.specs.declared.unit.UnitRef.TheVariants as unit
 use Rattle.fj_statement.specs.declared.statement.Transfer.{Transfer}
 
 -- an ending, and the variables, each a scalar

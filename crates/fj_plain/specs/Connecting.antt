@@ -1,6 +1,6 @@
 -- OPEN, CLOSE and the motions (ISO/IEC 1539-1:2004, 9.4.5, 9.4.6, 9.7, 9.8).
 use Rattle.std.specs.Prelude.{ℕ, ◌==◌, ◌&&◌, not, nat_lt, unwrap_or, codes, Bool, true, false, List, ◌++◌, length, Option, Some, None, if◌then◌else◌, Result, Ok, Err}
-use Rattle.std.specs.Fmt.{decimal}
+use Rattle.std.specs.Fmt.{decimal, signed_decimal}
 use Rattle.std.specs.List.{list_any}
 use Rattle.std.specs.Str.{bytes_eq}
 use Rattle.fj_value.specs.declared.condition.Condition.{Condition}
@@ -10,19 +10,21 @@ use Rattle.fj_modes.specs.Modes as mode
 use Rattle.fj_modes.specs.Words.{given_and, is_scratch}
 use Rattle.fj_modes.specs.declared.modes.Modes.{Modes}
 use Rattle.fj_modes.specs.declared.specifiers.OpenSpec.{OpenSpec}
-use Rattle.fj_modes.specs.declared.unit.Motion.{Motion}
-use Rattle.fj_modes.specs.declared.unit.Motion.TheVariants as motion
+use Rattle.fj_modes.specs.declared.motion.Motion.{Motion}
+use Rattle.fj_modes.specs.declared.motion.Motion.TheVariants as motion
 use Rattle.fj_connect.specs.declared.spot.Positioning.TheVariants as positioning
 use Rattle.fj_connect.specs.Connection.{Connection}
 use Rattle.fj_connect.specs.Opening.{opened_file}
 use Rattle.fj_connect.specs.Positions.{moved}
+use Rattle.fj_statement.specs.declared.unit.UnitRef.{UnitRef}
+use Rattle.fj_statement.specs.Units.{is_outside, number_from_code}
 use Rattle.fj_plain.specs.State.{State, without_file, Unit, inserted, disconnected, keeps, with_connection}
 
 -- ---- OPEN
 
 -- the file: FILE=, a scratch file by the unit, or by default `fort.` and the unit (own)
 abbrev pub file_due : OpenSpec → ℕ → List ℕ
-file_due spec number = if given_and is_scratch spec.status then codes "SCRATCH." ++ decimal number
+file_due spec number = if given_and is_scratch spec.status then codes "SCRATCH." ++ signed_decimal (number_from_code number)
     else unwrap_or spec.file (codes "fort." ++ decimal number)
 
 -- the statement keeps the file: it names none and asks for no scratch file, or it names the connected one
@@ -73,6 +75,11 @@ abbrev pub opens : State → ℕ → OpenSpec → Option Unit → State × Condi
 opens s number spec None = opens_with s number spec None (settled spec)
 opens s number spec (Some u) = if keeps_file u spec spec.file then with_modes s u (mode.changed u.connection.modes spec)
     else opens_with s number spec (Some u) (settled spec)
+
+-- a unit that is not connected is not connected either where its number is not one from 0 to 2,147,483,647 (3)
+abbrev pub opens_unit : State → UnitRef → ℕ → OpenSpec → Option Unit → State × Condition
+opens_unit s u number spec None = if is_outside u then (s, Error 3) else opens s number spec None
+opens_unit s u number spec (Some old) = opens s number spec (Some old)
 
 -- ---- CLOSE
 

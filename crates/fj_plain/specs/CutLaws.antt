@@ -2,12 +2,12 @@
 use Rattle.std.specs.Prelude.{◌≡◌, ℕ, List, ◌++◌, take, slice_get, Option, Some, None}
 use Rattle.fj_statement.specs.declared.deck.Variable.{Variable}
 use Rattle.fj_plain.specs.State.{State}
-use Rattle.fj_plain.specs.Statement.{Stated, Ran, executed, cut}
+use Rattle.fj_plain.specs.Statement.{Stated, Ran, begun_in, executed, cut}
 
--- where the statements before have not ended the deck, the next one stands in the state that they reach
+-- where the statements before have not ended the deck, the next one begins in the state that they reach
 abbrev pub next_at : Ran → Option Stated → Option (Stated × State)
 next_at ran None = None
-next_at ran (Some st) = elim ran.ending as (λ _. Option (Stated × State)) [ None ↦ Some (st, ran.state) | Some e ↦ None ]
+next_at ran (Some st) = elim ran.ending as (λ _. Option (Stated × State)) [ None ↦ Some (begun_in ran.state st, ran.state) | Some e ↦ None ]
 
 -- just before a statement is where the statements before it come to
 abbrev pub CutIsBefore : Type 0

@@ -5,7 +5,7 @@ use Rattle.fj_value.specs.declared.condition.Condition.{Condition}
 use Rattle.fj_value.specs.declared.value.Cell.{Cell}
 use Rattle.fj_value.specs.declared.value.Value.TheVariants.{Undefined}
 use Rattle.fj_control.specs.Steps.{Given}
-use Rattle.fj_modes.specs.declared.unit.UnitRef.TheVariants as unit
+use Rattle.fj_statement.specs.Units.{number_of}
 use Rattle.fj_statement.specs.declared.deck.Variable.{Variable}
 use Rattle.fj_statement.specs.declared.statement.Transfer.{Transfer}
 use Rattle.fj_statement.specs.declared.statement.Statement.TheVariants as statement
@@ -56,5 +56,5 @@ HaltsBeginAndEnd = (variables : List Variable) (sts : List Stated) (files : File
 abbrev pub SkippedChangesNoFile : Type 0
 SkippedChangesNoFile = (variables : List Variable) (sts : List Stated) (files : Files) (control : ℕ → List Given) (t : Transfer) (number : ℕ) (u : Unit) (cause : Condition) →
     let s = reached variables sts files in
-    t.unit ≡ unit.Number number → found s.units number ≡ Some u → u.halt ≡ Some cause → is_asynchronous t ≡ true →
+    number_of t.unit ≡ Some number → found s.units number ≡ Some u → u.halt ≡ Some cause → is_asynchronous t ≡ true →
     connections (own control variables s (statement.Transfer t)).0 ≡ connections s

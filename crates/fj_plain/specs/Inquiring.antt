@@ -16,12 +16,13 @@ use Rattle.fj_modes.specs.declared.specifiers.Action.TheVariants.{Read, Write, R
 use Rattle.fj_modes.specs.declared.asked.Question.{Question}
 use Rattle.fj_modes.specs.declared.asked.Question.TheVariants as question
 use Rattle.fj_modes.specs.declared.asked.Wanted.{Wanted}
+use Rattle.fj_statement.specs.Units.{number_from_code}
 use Rattle.fj_bay.specs.Jobs.{Looked}
 use Rattle.fj_plain.specs.Items.{number_for}
 
 -- what is asked about: a unit or a file, connected or not
 pub record About : Type 0 where
-  -- the number of the unit, where one is asked about or the file is connected
+  -- the code of the unit's number, where one is asked about or the file is connected
   pub unit : Option ℕ
   -- the file that is asked about, and whether it is there
   pub file : Option (List ℕ)
@@ -77,7 +78,7 @@ looked (Some look) answer = answer look
 abbrev pub connected_answer : About → Modes → Question → Answer
 connected_answer a m question.Exist = truth true
 connected_answer a m question.Opened = truth true
-connected_answer a m question.Number = option_map_or (λ n. number (pos n)) a.unit nothing
+connected_answer a m question.Number = option_map_or (λ n. number (number_from_code n)) a.unit nothing
 connected_answer a m question.Named = truth (not m.scratch)
 connected_answer a m question.Name = if m.scratch then nothing else option_map_or word a.name nothing
 connected_answer a m question.Access = word (access_word m.access)

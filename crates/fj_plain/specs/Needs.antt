@@ -4,12 +4,13 @@ use Rattle.std.specs.List.{flat_map}
 use Rattle.std.specs.Str.{bytes_eq}
 use Rattle.fj_value.specs.declared.place.Place.{Place}
 use Rattle.fj_modes.specs.declared.asked.Wanted.{Wanted}
-use Rattle.fj_modes.specs.declared.asked.Subject.{Subject}
-use Rattle.fj_modes.specs.declared.asked.Subject.TheVariants as subject
+pub use Rattle.fj_statement.specs.Units.{number_of}
+use Rattle.fj_statement.specs.Units.{place_held, place_new}
+use Rattle.fj_statement.specs.declared.unit.Subject.{Subject}
+use Rattle.fj_statement.specs.declared.unit.Subject.TheVariants as subject
 use Rattle.fj_statement.specs.declared.deck.Variable.{Variable}
 use Rattle.fj_statement.specs.declared.statement.Operand.{Operand}
-use Rattle.fj_modes.specs.declared.unit.UnitRef.{UnitRef}
-use Rattle.fj_modes.specs.declared.unit.UnitRef.TheVariants as unit
+use Rattle.fj_statement.specs.declared.unit.UnitRef.{UnitRef}
 use Rattle.fj_statement.specs.declared.statement.Control.{Control}
 use Rattle.fj_statement.specs.declared.statement.Control.TheVariants as control
 use Rattle.fj_statement.specs.declared.statement.Transfer.{Transfer}
@@ -20,14 +21,17 @@ use Rattle.fj_book.specs.Prohibitions.{Need, Holder}
 use Rattle.fj_plain.specs.State.{State, Unit, Entry}
 use Rattle.fj_store.specs.Variables.{Variables}
 
--- the number of a unit; `*` has none
-abbrev pub number_of : UnitRef → Option ℕ
-number_of unit.Star = None
-number_of (unit.Number n) = Some n
-
 abbrev pub if_given : {A : Type 0} → Option A → List A
 if_given None = []
 if_given (Some x) = x ∷ []
+
+-- the place of a unit is referenced
+abbrev pub unit_places : UnitRef → List Place
+unit_places u = if_given (place_held u)
+
+abbrev pub subject_places : Subject → List Place
+subject_places (subject.Unit u) = unit_places u
+subject_places (subject.File name) = []
 
 -- the place of a specifier's operand; a literal has none
 abbrev pub given_places : List Variable → Option Operand → List Place
@@ -53,11 +57,11 @@ transfer_places variables t = flat_map (operand_places variables) t.items ++ gro
 abbrev pub no_need : Need
 no_need = record { unit = None; references = []; defines = []; specifiers = []; items = []; internal = []; id = None }
 
--- of specifiers that define places
-abbrev pub need_of : List Place → Need
-need_of specifiers = record no_need { defines = specifiers; specifiers = specifiers }
+-- of a unit, and of specifiers that define places
+abbrev pub need_of : List Place → List Place → Need
+need_of references specifiers = record no_need { references = references; defines = specifiers; specifiers = specifiers }
 
--- of READ and WRITE: REC= and POS= are referenced, and what an output takes; ID=, SIZE= and IOSTAT= are defined, and what an input
+-- of READ and WRITE: the unit's place, REC= and POS= are referenced, and what an output takes; ID=, SIZE= and IOSTAT= are defined, and what an input
 -- reads
 abbrev pub transfer_need : List Variable → Transfer → Need
 transfer_need variables t =
@@ -65,7 +69,7 @@ transfer_need variables t =
     let specifiers = if_given t.id ++ if_given t.size ++ if_given t.iostat in
     record {
       unit = number_of t.unit;
-      references = given_places variables t.rec ++ given_places variables t.pos ++ (if t.input then [] else places);
+      references = unit_places t.unit ++ given_places variables t.rec ++ given_places variables t.pos ++ (if t.input then [] else places);
       defines = specifiers ++ (if t.input then places else []);
       specifiers = specifiers;
       items = places;
@@ -89,19 +93,19 @@ unit_asked s about = unit_about (unit_of_file s.units) about
 abbrev pub wanted_places : List Wanted → List Place
 wanted_places asked = map (λ (w : Wanted). w.place) asked
 
-abbrev pub inquiry_need : List Variable → Variables → Option ℕ → List Wanted → Option Operand → Option Place → Need
-inquiry_need variables vars number asked id iostat =
-    record (need_of (wanted_places asked ++ if_given iostat)) { unit = number; references = given_places variables id; id = number_given vars id }
+abbrev pub inquiry_need : List Variable → Variables → Option ℕ → List Place → List Wanted → Option Operand → Option Place → Need
+inquiry_need variables vars number places asked id iostat =
+    record (need_of (places ++ given_places variables id) (wanted_places asked ++ if_given iostat)) { unit = number; id = number_given vars id }
 
 -- by the variables, and by the unit that a file is connected to
 abbrev pub need_by : List Variable → Variables → (List ℕ → Option ℕ) → Statement → Need
 need_by variables vars unit_named (statement.Assign to from) = record no_need { references = operand_places variables from; defines = operand_places variables to }
-need_by variables vars unit_named (statement.OpenUnit u spec iostat) = need_of (if_given iostat)
-need_by variables vars unit_named (statement.CloseUnit u keep iostat) = need_of (if_given iostat)
+need_by variables vars unit_named (statement.OpenUnit u spec iostat) = need_of (unit_places u) (if_given (place_new u) ++ if_given iostat)
+need_by variables vars unit_named (statement.CloseUnit u keep iostat) = need_of (unit_places u) (if_given iostat)
 need_by variables vars unit_named (statement.WaitFor u id iostat) =
-    record (need_of (if_given iostat)) { unit = number_of u; references = given_places variables id; id = number_given vars id }
-need_by variables vars unit_named (statement.Move how u iostat) = need_of (if_given iostat)
-need_by variables vars unit_named (statement.Inquire about asked id iostat) = inquiry_need variables vars (unit_about unit_named about) asked id iostat
+    record (need_of (unit_places u ++ given_places variables id) (if_given iostat)) { unit = number_of u; id = number_given vars id }
+need_by variables vars unit_named (statement.Move how u iostat) = need_of (unit_places u) (if_given iostat)
+need_by variables vars unit_named (statement.Inquire about asked id iostat) = inquiry_need variables vars (unit_about unit_named about) (subject_places about) asked id iostat
 need_by variables vars unit_named (statement.Transfer t) = transfer_need variables t
 need_by variables vars unit_named statement.End = no_need
 

@@ -6,6 +6,7 @@ use Rattle.fj_value.specs.declared.value.Value.TheVariants.{Undefined}
 use Rattle.fj_value.specs.declared.condition.Condition.{Condition}
 use Rattle.fj_value.specs.declared.condition.Condition.TheVariants.{Fine}
 use Rattle.fj_statement.specs.declared.deck.Variable.{Variable}
+use Rattle.fj_statement.specs.Units.{first_new_code}
 use Rattle.fj_connect.specs.Connection.{Connection}
 use Rattle.fj_connect.specs.Positions.{ended}
 use Rattle.std.specs.Str.{bytes_eq}
@@ -38,7 +39,7 @@ pub record Entry : Type 0 where
   pub count : Option ℕ
   pub condition : Condition
 
--- A connected unit. Where it is halted, with the cause, its pending transfers are skipped.
+-- A connected unit, by the code of its number. Where it is halted, with the cause, its pending transfers are skipped.
 pub record Unit : Type 0 where
   pub number : ℕ
   pub connection : Connection
@@ -68,6 +69,8 @@ pub record State : Type 0 where
   pub output : Output
   -- the next identifier
   pub next : ℕ
+  -- the code of the number that NEWUNIT= gives next
+  pub new_unit : ℕ
   pub tells : List Tell
 
 abbrev pub is_fine : Condition → Bool
@@ -125,5 +128,6 @@ start variables files = record {
   files = files;
   output = record { text = []; begun = 0; is_open = false };
   next = 1;
+  new_unit = first_new_code;
   tells = [];
 }

@@ -13,8 +13,8 @@ use Rattle.fj_value.specs.declared.value.Value.{Value}
 use Rattle.fj_value.specs.declared.value.Value.TheVariants as value
 use Rattle.fj_modes.specs.declared.modes.Modes.{Modes}
 use Rattle.fj_modes.specs.declared.asked.Wanted.{Wanted}
-use Rattle.fj_modes.specs.declared.asked.Subject.{Subject}
-use Rattle.fj_modes.specs.declared.asked.Subject.TheVariants as subjects
+use Rattle.fj_statement.specs.declared.unit.Subject.{Subject}
+use Rattle.fj_statement.specs.declared.unit.Subject.TheVariants as subjects
 use Rattle.fj_statement.specs.declared.deck.Variable.{Variable}
 use Rattle.fj_statement.specs.declared.deck.Lined.{Lined}
 use Rattle.fj_statement.specs.declared.statement.Operand.{Operand}
@@ -25,13 +25,14 @@ use Rattle.fj_statement.specs.declared.statement.Statement.{Statement}
 use Rattle.fj_statement.specs.declared.statement.Statement.TheVariants as statement
 use Rattle.fj_bay.specs.Jobs.{Looked, looked_at}
 use Rattle.fj_store.specs.Kinds.{of_kind}
-use Rattle.fj_store.specs.Variables.{Variables, with_value}
+use Rattle.fj_store.specs.Variables.{Variables, value_at, with_value}
+use Rattle.fj_statement.specs.Units.{begun, new_code, number_from_code, place_new}
 use Rattle.fj_plain.specs.Items.{given_back, kind_of, operand_places, value_of}
 use Rattle.fj_book.specs.Prohibitions.{prohibited, Holder, has_id}
 use Rattle.fj_plain.specs.Needs.{number_of, need, holders, given_number, unit_asked}
 use Rattle.fj_plain.specs.Telling.{waited, condition_of, after_tells}
 use Rattle.fj_plain.specs.Transfers.{with_number, reads_or_writes, transfers_nothing}
-use Rattle.fj_plain.specs.Connecting.{opens, closes, closes_anyway, moves}
+use Rattle.fj_plain.specs.Connecting.{opens_unit, closes, closes_anyway, moves}
 use Rattle.fj_plain.specs.Inquiring.{About, inquired}
 use Rattle.fj_plain.specs.State.{State, Files, Unit, Entry, Tell, Output, found, all_closed, start}
 
@@ -99,7 +100,7 @@ if_numbered s (Some n) action = action n
 
 abbrev pub own : (ℕ → List Given) → List Variable → State → Statement → State × Condition
 own control variables s (statement.Assign to from) = (record s { vars = assigned variables (operand_places variables to) (value_of s.vars from) s.vars }, Fine)
-own control variables s (statement.OpenUnit u spec iostat) = if_numbered s (number_of u) (λ n. opens s n spec (found s.units n))
+own control variables s (statement.OpenUnit u spec iostat) = if_numbered s (number_of u) (λ n. opens_unit s u n spec (found s.units n))
 own control variables s (statement.CloseUnit u keep iostat) = closes s keep (unit_at s (number_of u))
 own control variables s (statement.WaitFor u id iostat) = (s, Fine)
 own control variables s (statement.Move how u iostat) = moves s how (unit_at s (number_of u))
@@ -135,8 +136,23 @@ iostat_of (statement.Inquire subject asked id iostat) = iostat
 iostat_of (statement.Transfer t) = t.iostat
 iostat_of statement.End = None
 
+-- NEWUNIT= gets the number of a unit that it connected (ISO/IEC 1539-1:2010, 9.5.6.12), which is not given again
+abbrev pub new_place : Statement → Condition → Option Place
+new_place (statement.OpenUnit u spec iostat) Fine = place_new u
+new_place st condition = None
+
+abbrev pub next_new : Option Place → ℕ → ℕ
+next_new None code = code
+next_new (Some place) code = new_code code
+
+abbrev pub with_new_unit : List Variable → Statement → Condition → ℕ → Variables → Variables
+with_new_unit variables st condition code vars = with_number variables (new_place st condition) (number_from_code code) vars
+
 abbrev pub defines : List Variable → Statement → State × Condition → State
-defines variables st done = record (done.0) { vars = with_number variables (iostat_of st) (code_of done.1) done.0.vars }
+defines variables st done = record (done.0) {
+  vars = with_number variables (iostat_of st) (code_of done.1) (with_new_unit variables st done.1 done.0.new_unit done.0.vars);
+  new_unit = next_new (new_place st done.1) done.0.new_unit;
+}
 
 -- a condition that no IOSTAT= catches ends the deck in error
 abbrev pub uncaught : ℕ → Option Place → Condition → Option Ending
@@ -164,6 +180,13 @@ goes_on control variables line st s None = acts_after control variables line st 
 abbrev pub Stated : Type 0
 Stated = Lined × (ℕ → List Given)
 
+-- a statement as it begins: its unit has the number that its place has then, or that NEWUNIT= is to give it
+abbrev pub begins : Variables → ℕ → Stated → Stated
+begins vars new st = (record st.0 { what = begun (value_at vars) new st.0.what }, st.1)
+
+abbrev pub begun_in : State → Stated → Stated
+begun_in s st = begins s.vars s.new_unit st
+
 unfoldable pub step : List Variable → Stated → State → State × Option Ending
 step variables st s = goes_on st.1 variables st.0.line st.0.what s (prohibited s.vars (holders s.book) (need variables s st.0.what))
 
@@ -177,7 +200,7 @@ pub record Ran : Type 0 where
 abbrev pub executed : List Variable → List Stated → State → Ran
 executed variables [] s = record { state = s; ending = None }
 executed variables (st ∷ more) s =
-    let done = step variables st s in
+    let done = step variables (begun_in s st) s in
     elim done.1 as (λ _. Ran) [
       | None ↦ executed variables more done.0
       | Some e ↦ record { state = done.0; ending = Some e }
@@ -216,13 +239,13 @@ plain_execution variables statements files = execution variables (stated stateme
 
 -- ---- a run up to a statement
 
--- just before the statement at a place of the deck, counted from 0: that statement, and the state; none where the execution ends
+-- just before the statement at a place of the deck, counted from 0: that statement as it begins, and the state; none where the execution ends
 -- before it
 abbrev pub cut : List Variable → ℕ → List Stated → State → Option (Stated × State)
 cut variables index [] s = None
-cut variables zero (st ∷ more) s = Some (st, s)
+cut variables zero (st ∷ more) s = Some (begun_in s st, s)
 cut variables (suc index) (st ∷ more) s =
-    let done = step variables st s in
+    let done = step variables (begun_in s st) s in
     elim done.1 as (λ _. Option (Stated × State)) [
       | None ↦ cut variables index more done.0
       | Some e ↦ None

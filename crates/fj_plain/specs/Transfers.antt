@@ -1,5 +1,5 @@
 -- READ and WRITE (ISO/IEC 1539-1:2004, 9.5): what the statement itself tells, and a transfer carried out or made pending.
-use Rattle.std.specs.Prelude.{ℕ, ℤ, pos, ◌+◌, ◌==◌, ◌&&◌, ◌++◌, not, Bool, unwrap_or, is_some, true, List, [], ◌∷◌, length, map, slice_get, Option, Some, None, option_map, if◌then◌else◌, Result, Ok, Err}
+use Rattle.std.specs.Prelude.{ℕ, ℤ, pos, ◌+◌, ◌==◌, ◌&&◌, ◌++◌, not, Bool, unwrap_or, is_some, true, List, [], ◌∷◌, length, map, slice_get, Option, Some, None, option_map, option_and_then, if◌then◌else◌, Result, Ok, Err}
 use Rattle.std.specs.List.{flat_map, position_or_len}
 use Rattle.fj_value.specs.declared.condition.Condition.{Condition}
 use Rattle.fj_value.specs.declared.condition.Condition.TheVariants.{Fine, Error}
@@ -17,12 +17,12 @@ use Rattle.fj_transfer.specs.declared.transfer.Layout.TheVariants as layout
 use Rattle.fj_statement.specs.declared.deck.Variable.{Variable}
 use Rattle.fj_statement.specs.declared.statement.Control.{Control}
 use Rattle.fj_statement.specs.declared.statement.Control.TheVariants as control
-use Rattle.fj_modes.specs.declared.unit.UnitRef.{UnitRef}
-use Rattle.fj_modes.specs.declared.unit.UnitRef.TheVariants as unit
+use Rattle.fj_statement.specs.declared.unit.UnitRef.{UnitRef}
+use Rattle.fj_statement.specs.declared.unit.UnitRef.TheVariants as unit
 use Rattle.fj_statement.specs.declared.statement.Transfer.{Transfer}
 use Rattle.fj_store.specs.Variables.{Variables, with_value, undefined_at, moved_of, is_at}
 use Rattle.fj_plain.specs.Items.{given_back, kind_of, cell_at, cells_of, number_for}
-use Rattle.fj_plain.specs.Needs.{transfer_places, group_places, if_given, number_given}
+use Rattle.fj_plain.specs.Needs.{number_of, transfer_places, group_places, if_given, number_given}
 use Rattle.fj_plain.specs.Telling.{is_asynchronous, with_size}
 use Rattle.fj_transfer.specs.Printing.{Printed, printed}
 use Rattle.fj_plain.specs.State.{State, Unit, Entry, Output, found, with_unit, elements}
@@ -185,7 +185,7 @@ on_star control s t moved spec = let p = star_printed control s.output t moved s
 
 abbrev pub transfer_at : (ℕ → List Given) → List Variable → State → Transfer → Moved → UnitRef → State × Condition
 transfer_at control variables s t moved unit.Star = on_star control s t moved (spec_of variables s t moved.cells)
-transfer_at control variables s t moved (unit.Number n) = on_unit control variables s t moved (found s.units n)
+transfer_at control variables s t moved u = on_unit control variables s t moved (option_and_then (found s.units) (number_of u))
 
 abbrev pub reads_or_writes : (ℕ → List Given) → List Variable → State → Transfer → State × Condition
 reads_or_writes control variables s t = transfer_at control variables s t (moved_by variables s t) t.unit

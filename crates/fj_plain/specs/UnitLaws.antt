@@ -2,7 +2,7 @@
 use Rattle.std.specs.Prelude.{◌≡◌, ◌≢◌, ℕ, ◌<◌, ◌≤◌, ◌==◌, if◌then◌else◌, Bool, true, List, map, Some, None, length}
 use Rattle.std.specs.List.{All, AllPairs, list_any}
 use Rattle.fj_statement.specs.declared.deck.Variable.{Variable}
-use Rattle.fj_modes.specs.declared.unit.UnitRef.TheVariants as unit
+use Rattle.fj_statement.specs.Units.{number_of}
 use Rattle.fj_statement.specs.declared.statement.Operand.{Operand}
 use Rattle.fj_statement.specs.declared.statement.Transfer.{Transfer}
 use Rattle.fj_statement.specs.declared.statement.Statement.TheVariants as statement
@@ -74,5 +74,5 @@ at_once t = record t { asynchronous = None; id = None }
 
 abbrev pub LaterIsAsAtOnce : Type 0
 LaterIsAsAtOnce = (control : ℕ → List Given) (variables : List Variable) (s : State) (t : Transfer) (number : ℕ) (u : Unit) →
-    t.unit ≡ unit.Number number → found s.units number ≡ Some u → u.connection.modes.asynchronous ≡ true → u.halt ≡ None →
+    number_of t.unit ≡ Some number → found s.units number ≡ Some u → u.connection.modes.asynchronous ≡ true → u.halt ≡ None →
     connections (own control variables s (statement.Transfer (later t))).0 ≡ connections (own control variables s (statement.Transfer (at_once t))).0

@@ -1,5 +1,5 @@
 -- How a statement begins, as plain data.
-use Rattle.std.proofs.Common.{◌≡◌, ℕ, true, false, not, List, [], ◌∷◌, ◌++◌, map, filter, Option, Some, None, Result, Ok, Err, IfOk, OnOk, is_none, refl, sym, ap, ◌∙◌, subst}
+use Rattle.std.proofs.Common.{◌≡◌, ℕ, true, false, not, List, [], ◌∷◌, ◌++◌, map, filter, Option, Some, None, Result, Ok, Err, OnOk, is_none, refl, sym, ap, ◌∙◌}
 use Rattle.std.proofs.lemmas.List.{append-nil}
 use Rattle.fj_value.specs.declared.condition.Condition.{Condition}
 use Rattle.fj_value.specs.declared.condition.Rule.{Rule}
@@ -15,7 +15,7 @@ use Rattle.fj_desk.specs.Acting.{doing}
 use Rattle.fj_desk.specs.Core.{Core, Pending, Connected, pending_holders, unit_named}
 use Rattle.fj_desk.specs.Desking.{told_core}
 use Rattle.fj_turns.specs.Run.{Run, Held, Waiting}
-use Rattle.fj_turns.specs.Turns.{doing_told, turn_act, turn_tell, turn_wait, turn_start, with_tells, ends_halts, halted_slots, wait_by, waited_now, unsettled, settles, start_by, finish_by, rule_of}
+use Rattle.fj_turns.specs.Turns.{doing_told, turn_act, turn_tell, turn_wait, turn_begun, with_tells, ends_halts, halted_slots, wait_by, waited_now, unsettled, settles, start_by, finish_by, rule_of}
 use Rattle.fj_pending.specs.Asks.{IsUnitAsked}
 use Rattle.fj_pending.specs.Plain.{held, holders, tells_of}
 use Rattle.fj_pending.specs.declared.held.Held as code_held
@@ -103,10 +103,10 @@ pub rule_is : (variables : List Variable) (st : Stated) (files : Files) (core : 
 rule_is variables st files core o e =
     ap (λ (ps : List Pending). prohibited (values_of core.store) (pending_holders ps) (need_by variables (values_of core.store) (unit_named core.units) st.0.what)) (pendings_are core.pending) ∙ sym e
 
-pub starts_ruled : (st : Stated) (r : Run) (rule : Rule) → rule_of r.variables st r.core ≡ Some rule → turn_start st r ≡ finish_by (Some (prohibition st.0.line rule)) r
+pub starts_ruled : (st : Stated) (r : Run) (rule : Rule) → rule_of r.variables st r.core ≡ Some rule → turn_begun st r ≡ finish_by (Some (prohibition st.0.line rule)) r
 starts_ruled st r rule e = ap (λ o. start_by st o r) e
 
-pub starts_free : (st : Stated) (r : Run) → rule_of r.variables st r.core ≡ None → turn_start st r ≡ turn_wait st r
+pub starts_free : (st : Stated) (r : Run) → rule_of r.variables st r.core ≡ None → turn_begun st r ≡ turn_wait st r
 starts_free st r e = ap (λ o. start_by st o r) e
 
 -- as it was looked up

@@ -1,5 +1,5 @@
 -- Units have the files that are out, and jobs are counted: turn by turn, and ask by ask.
-use Rattle.std.proofs.Common.{◌≡◌, ℕ, zero, suc, ◌+◌, ◌-◌, ◌*◌, ◌<◌, ◌≤◌, ◌==◌, ◌&&◌, Bool, true, false, cond, List, [], ◌∷◌, replicate, drop, length, get_or, slice_set, None, IsSome, refl, sym, ap, ◌∙◌, subst, inl, inr, arith}
+use Rattle.std.proofs.Common.{◌≡◌, ℕ, zero, suc, ◌+◌, ◌-◌, ◌*◌, ◌<◌, ◌≤◌, ◌==◌, ◌&&◌, Bool, true, false, cond, List, [], ◌∷◌, replicate, length, get_or, slice_set, None, IsSome, refl, sym, ap, ◌∙◌, subst, inl, inr, arith}
 use Rattle.std.specs.Prelude.{Result, Ok, Err, IfOk, if◌then◌else◌}
 use Rattle.std.specs.List.{sum}
 use Rattle.std.proofs.Props.{props}
@@ -11,7 +11,7 @@ use Rattle.fj_bay.specs.declared.job.Job.{Job}
 use Rattle.fj_bay.specs.declared.job.Answer.{Answer}
 use Rattle.fj_statement.specs.Sound.{IsSound}
 use Rattle.fj_statement.specs.declared.statement.Statement.{Statement}
-use Rattle.fj_plain.specs.Statement.{Stated, stated}
+use Rattle.fj_plain.specs.Statement.{Stated}
 use Rattle.fj_desk.specs.Core.{Connected}
 use Rattle.fj_world.specs.Conduct.{IsDueAsk, IsSettling, IsSubmitting, owed_after_settle, owed_after_submit}
 use Rattle.fj_world.specs.declared.ask.Ask.{Ask}
@@ -25,11 +25,12 @@ use Rattle.fj_runner.specs.Admitting.{MayAsk}
 use Rattle.fj_runner.specs.Answering.{with_own}
 use Rattle.fj_runner.specs.Fitting.{HasRoom}
 use Rattle.fj_runner.specs.Going.{Awaits, CanCount, Counts, DoesNotPause, HaveAt, HaveTurned, Hears, IsAt, AwaitsAtHand, IsGoing, IsMore, KeepsToSlots, OwesAsGiven, SentFor, asked_for, given_ahead}
-use Rattle.fj_runner.specs.Machine.{rest_of}
+use Rattle.fj_runner.specs.Machine.{behind, rest_of}
 use Rattle.fj_runner.specs.Spending.{HasAsks, Lives, Spent, asks_for, jobs_at, jobs_from, jobs_left}
 use Rattle.fj_runner.specs.Tallying.{MaySettle, due_of, owed_at}
 use Rattle.fj_runner.specs.declared.hand.Hand.{Hand}
 use Rattle.fj_runner.specs.declared.hand.Hand.TheVariants.{Idle, Submitting, Settling}
+use Rattle.fj_runner.specs.declared.machine.AtHand.{AtHand}
 use Rattle.fj_runner.specs.declared.machine.Machine.{Machine}
 use Rattle.fj_runner.specs.declared.stage.Stage.{Stage}
 use Rattle.fj_runner.specs.declared.stage.Stage.TheVariants as stage
@@ -42,6 +43,7 @@ use Rattle.fj_acts.specs.declared.doing.Given.{Given}
 use Rattle.fj_acts.specs.declared.doing.Given.TheVariants as given
 use Rattle.fj_acts.specs.declared.state.Core.{Core}
 use Rattle.fj_items.specs.declared.lost.Lost.{Lost}
+use Rattle.fj_runner.proofs.AtHand.{rest_same, same_place}
 use Rattle.fj_runner.proofs.Numbering.{equal_by}
 use Rattle.fj_runner.proofs.Spending.{none_ended, settle_asks, settle_left, submit_asks, submit_left, told_asks, took_asks}
 
@@ -91,7 +93,7 @@ kept_in {F = F} {ghosts = ghosts} m m' same kept = subst (λ (x : State F ghosts
 
 -- ---- a turn was taken
 
-module _ {F : Type 0} {ghosts : Ghosts F} (m : Machine F ghosts) (s : State F ghosts) (st : Stated) (more : List Stated) (few : s.ending ≡ None → s.core.next ≤ m.at + 1)
+module _ {F : Type 0} {ghosts : Ghosts F} (m : Machine F ghosts) (s : State F ghosts) (st : Stated) (more : List Stated) (few : s.ending ≡ None → s.core.next ≤ m.at.place + 1)
     (kept : IsKept m.state.core) where
   at_hand : (st' : Stated) (more' : List Stated) → rest_of m ≡ st ∷ more → rest_of m ≡ st' ∷ more' → st ≡ st'
   at_hand st' more' here e = let both : st ∷ more ≡ st' ∷ more' = sym here ∙ e in cc
@@ -110,14 +112,15 @@ module _ {F : Type 0} {ghosts : Ghosts F} (m : Machine F ghosts) (s : State F gh
     kept = kept;
   }
 
-  pub on_passed : (m' : Machine F ghosts) → m'.state ≡ m.state → m'.deck ≡ m.deck → m'.at ≡ m.at + 1 → (m.state.stage ≡ stage.Start) × HaveFiles m.state.core.names m.state.core.units
+  pub on_passed : (m' : Machine F ghosts) → m'.state ≡ m.state → m'.deck ≡ m.deck → m'.at ≡ behind m.at → (m.state.stage ≡ stage.Start) × HaveFiles m.state.core.names m.state.core.units
       → m.state.core.next ≤ s.core.next + 1 → m.state.ending ≡ s.ending → IsAt m'
   on_passed m' same deck at have next ending = record {
     files = λ st' more' e. subst (λ (x : State F ghosts). HaveAt x.stage x.core.names x.core.units st'.0.what) (sym same) (have_start m.state.stage m.state.core.names m.state.core.units st'.0.what have.0 have.1);
     few = λ none.
         let f = few (sym ending ∙ ap (λ (x : State F ghosts). x.ending) (sym same) ∙ none) in
         let n : m'.state.core.next ≡ m.state.core.next = ap (λ (x : State F ghosts). x.core.next) same in
-        omega (arith, f, next, n, at);
+        let p : m'.at.place ≡ m.at.place + 1 = ap (λ (a : AtHand). a.place) at in
+        omega (arith, f, next, n, p);
     kept = kept_in m m' same kept;
   }
 
@@ -143,13 +146,14 @@ count_entered (Err lost) s mid s' few sent ending next counts still = tt
 -- the same statement
 pub on_same : {F : Type 0} {ghosts : Ghosts F} → (m m' : Machine F ghosts) → m'.deck ≡ m.deck → m'.at ≡ m.at → m'.state ≡ m.state → IsAt m → IsAt m'
 on_same {F = F} {ghosts = ghosts} m m' deck at same on =
-    let rest : rest_of m' ≡ rest_of m = ap (λ n. drop n (stated m'.deck.statements)) at ∙ ap (λ d. drop m.at (stated d.statements)) deck in
+    let rest = rest_same m m' deck at in
     record {
       files = λ st more e. subst (λ (x : State F ghosts). HaveAt x.stage x.core.names x.core.units st.0.what) (sym same) (on.files st more (sym rest ∙ e));
       few = λ none.
           let f = on.few (ap (λ (x : State F ghosts). x.ending) (sym same) ∙ none) in
           let n : m'.state.core.next ≡ m.state.core.next = ap (λ (x : State F ghosts). x.core.next) same in
-          omega (arith, f, n, at);
+          let p = same_place m m' at in
+          omega (arith, f, n, p);
       kept = kept_in m m' same on.kept;
     }
 
@@ -290,29 +294,29 @@ settling_asks (Submitting n) s = absurd s
 settling_asks (Settling n) s = refl
 
 module _ {F : Type 0} {ghosts : Ghosts F} (m m' : Machine F ghosts) where
-  still_inside : m'.deck ≡ m.deck → m'.at ≡ m.at → m'.at < length m'.deck.statements → m.at < length m.deck.statements
-  still_inside deck at low = subst (λ n. n < length m.deck.statements) at (subst (λ d. m'.at < length d.statements) deck low)
+  still_inside : m'.deck ≡ m.deck → m'.at ≡ m.at → m'.at.place < length m'.deck.statements → m.at.place < length m.deck.statements
+  still_inside deck at low = subst (λ (a : AtHand). a.place < length m.deck.statements) at (subst (λ d. m'.at.place < length d.statements) deck low)
 
   jobs_same : m'.deck ≡ m.deck → m'.at ≡ m.at → m'.state.stage ≡ m.state.stage → m'.state.core.units ≡ m.state.core.units → jobs_left m' ≡ jobs_left m
   jobs_same deck at stage units =
-      ap (λ d. jobs_at m'.state.stage (length m'.state.core.units) + jobs_from (length d.statements) (m'.at + 1)) deck
-      ∙ ap (λ n. jobs_at m'.state.stage (length m'.state.core.units) + jobs_from (length m.deck.statements) (n + 1)) at
-      ∙ ap (λ s. jobs_at s (length m'.state.core.units) + jobs_from (length m.deck.statements) (m.at + 1)) stage
-      ∙ ap (λ us. jobs_at m.state.stage (length us) + jobs_from (length m.deck.statements) (m.at + 1)) units
+      ap (λ d. jobs_at m'.state.stage (length m'.state.core.units) + jobs_from (length d.statements) (m'.at.place + 1)) deck
+      ∙ ap (λ (a : AtHand). jobs_at m'.state.stage (length m'.state.core.units) + jobs_from (length m.deck.statements) (a.place + 1)) at
+      ∙ ap (λ s. jobs_at s (length m'.state.core.units) + jobs_from (length m.deck.statements) (m.at.place + 1)) stage
+      ∙ ap (λ us. jobs_at m.state.stage (length us) + jobs_from (length m.deck.statements) (m.at.place + 1)) units
 
   jobs_heard : m'.deck ≡ m.deck → m'.at ≡ m.at → Hears m.state m'.state → jobs_left m' ≡ jobs_left m
   jobs_heard deck at h =
-      ap (λ d. jobs_at m'.state.stage (length m'.state.core.units) + jobs_from (length d.statements) (m'.at + 1)) deck
-      ∙ ap (λ n. jobs_at m'.state.stage (length m'.state.core.units) + jobs_from (length m.deck.statements) (n + 1)) at
-      ∙ ap (λ n. n + jobs_from (length m.deck.statements) (m.at + 1)) (h.jobs (length m'.state.core.units))
-      ∙ ap (λ us. jobs_at m.state.stage (length us) + jobs_from (length m.deck.statements) (m.at + 1)) h.units
+      ap (λ d. jobs_at m'.state.stage (length m'.state.core.units) + jobs_from (length d.statements) (m'.at.place + 1)) deck
+      ∙ ap (λ (a : AtHand). jobs_at m'.state.stage (length m'.state.core.units) + jobs_from (length m.deck.statements) (a.place + 1)) at
+      ∙ ap (λ n. n + jobs_from (length m.deck.statements) (m.at.place + 1)) (h.jobs (length m'.state.core.units))
+      ∙ ap (λ us. jobs_at m.state.stage (length us) + jobs_from (length m.deck.statements) (m.at.place + 1)) h.units
 
   has_asks : (mid : Machine F ghosts) (a : Ask (Job F)) → m.tally.hand ≡ Idle → m'.deck ≡ mid.deck → m'.at ≡ mid.at → m'.state ≡ mid.state → m'.tally.left ≡ m.tally.left → m'.tally.owed ≡ m.tally.owed
       → IsDueAsk (due_of m'.tally.hand) a → HasAsks m → Spent a (jobs_left m) mid → Lives a m → HasAsks m'
   has_asks mid a idle deck at state left owed due asks spent lives = λ none low.
       let hand = m'.tally.hand in
       let have : sum m.tally.owed.items + 2 * jobs_left mid + asks_for hand ≤ m.tally.left =
-      by a hand due spent lives (ap (λ (x : State F ghosts). x.ending) (sym state) ∙ none) (subst (λ n. n < length mid.deck.statements) at (subst (λ d. m'.at < length d.statements) deck low)) in
+      by a hand due spent lives (ap (λ (x : State F ghosts). x.ending) (sym state) ∙ none) (subst (λ (a : AtHand). a.place < length mid.deck.statements) at (subst (λ d. m'.at.place < length d.statements) deck low)) in
       let same = jobs_between mid deck at state in
       subst (λ n. sum m'.tally.owed.items + 2 * jobs_left m' + asks_for hand ≤ n) (sym left)
       (subst (λ o. sum o.items + 2 * jobs_left m' + asks_for hand ≤ m.tally.left) (sym owed)
@@ -320,11 +324,11 @@ module _ {F : Type 0} {ghosts : Ghosts F} (m m' : Machine F ghosts) where
     where
       jobs_between : (mid : Machine F ghosts) → m'.deck ≡ mid.deck → m'.at ≡ mid.at → m'.state ≡ mid.state → jobs_left m' ≡ jobs_left mid
       jobs_between mid deck at state =
-          ap (λ d. jobs_at m'.state.stage (length m'.state.core.units) + jobs_from (length d.statements) (m'.at + 1)) deck
-          ∙ ap (λ n. jobs_at m'.state.stage (length m'.state.core.units) + jobs_from (length mid.deck.statements) (n + 1)) at
-          ∙ ap (λ (x : State F ghosts). jobs_at x.stage (length x.core.units) + jobs_from (length mid.deck.statements) (mid.at + 1)) state
+          ap (λ d. jobs_at m'.state.stage (length m'.state.core.units) + jobs_from (length d.statements) (m'.at.place + 1)) deck
+          ∙ ap (λ (a : AtHand). jobs_at m'.state.stage (length m'.state.core.units) + jobs_from (length mid.deck.statements) (a.place + 1)) at
+          ∙ ap (λ (x : State F ghosts). jobs_at x.stage (length x.core.units) + jobs_from (length mid.deck.statements) (mid.at.place + 1)) state
 
-      by : (b : Ask (Job F)) (hand : Hand) → IsDueAsk (due_of hand) b → Spent b (jobs_left m) mid → Lives b m → mid.state.ending ≡ None → mid.at < length mid.deck.statements
+      by : (b : Ask (Job F)) (hand : Hand) → IsDueAsk (due_of hand) b → Spent b (jobs_left m) mid → Lives b m → mid.state.ending ≡ None → mid.at.place < length mid.deck.statements
           → sum m.tally.owed.items + 2 * jobs_left mid + asks_for hand ≤ m.tally.left
       by ask.Finished hand d sp li none low = let past = sp none in absurd (omega (arith, past, low))
       by (ask.Submit at job) Idle d sp li none low = absurd (let bad : ⊥ = cc in bad)
@@ -384,12 +388,12 @@ module _ {F : Type 0} {ghosts : Ghosts F} (m m' : Machine F ghosts) (g : IsGoing
       → ((slot : ℕ) → owed_at m'.tally.owed.items slot ≡ owed_after_settle (due_of m.tally.hand) (owed_at m.tally.owed.items) slot) → IsGoing m'
   going_told deck at h one_less idle settling one_fewer owed =
       let less : m'.tally.left < m.tally.left = omega (arith, one_less) in
-      let rest : rest_of m' ≡ rest_of m = ap (λ n. drop n (stated m'.deck.statements)) at ∙ ap (λ d. drop m.at (stated d.statements)) deck in
+      let rest = rest_same m m' deck at in
       record {
         sound = subst (λ d. IsSound d) (sym deck) g.sound;
         at = record {
           files = λ st more e. h.files st.0.what (g.at.files st more (sym rest ∙ e));
-          few = λ none. let f = g.at.few (sym h.ending ∙ none) in omega (arith, f, h.next, at);
+          few = λ none. let f = g.at.few (sym h.ending ∙ none) in let p = same_place m m' at in omega (arith, f, h.next, p);
           kept = subst (λ o. o.begun ≤ star_limit) (sym h.output) g.at.kept;
         };
         sent = subst (CanCount m'.state.sent.items m'.tally.left) (sym (none_idle m'.tally.hand idle))

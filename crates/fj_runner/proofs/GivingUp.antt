@@ -1,5 +1,5 @@
 -- Calls that give up, behind statements that are passed.
-use Rattle.std.proofs.Common.{◌≡◌, ◌≢◌, ℕ, zero, suc, ◌+◌, ◌≤◌, Bool, true, false, List, ◌∷◌, ◌++◌, drop, Option, Some, None, Result, Err, OnErr, IsSome, inl, inr, refl, sym, ap, ◌∙◌, subst, arith, append_assoc}
+use Rattle.std.proofs.Common.{◌≡◌, ◌≢◌, ℕ, zero, suc, ◌+◌, ◌≤◌, Bool, true, false, List, ◌∷◌, ◌++◌, Option, Some, None, Result, Err, OnErr, IsSome, inl, inr, refl, sym, ap, ◌∙◌, subst, arith, append_assoc}
 use Rattle.std.specs.Prelude.{◌⊎◌, if◌then◌else◌}
 use Rattle.std.specs.Option.{option_and_then}
 use Rattle.fj_outside.specs.Holdings.{Holdings}
@@ -9,12 +9,12 @@ use Rattle.fj_items.specs.declared.lost.Lost.{Lost}
 use Rattle.fj_items.specs.declared.lost.Lost.TheVariants.{Memory, Disk, Sink, Unfit}
 use Rattle.fj_world.specs.Conduct.{IsSubmitting}
 use Rattle.fj_plain.specs.State.{Files, Output}
-use Rattle.fj_plain.specs.Statement.{Stated, stated}
+use Rattle.fj_plain.specs.Statement.{Stated}
 use Rattle.fj_desk.specs.Doing.{Doing}
-use Rattle.fj_turns.specs.Run.{Run, Stage}
-use Rattle.fj_turns.specs.Turns.{turn}
-use Rattle.fj_turns.specs.Passing.{passed_by, passed_on, passes, output_of, output_due, turn_output, knows_at, known_due, tells_due}
-use Rattle.fj_cut.specs.Turning.{doing_at, doing_due, turn_doing, IsUnbegun}
+use Rattle.fj_turns.specs.Run.{Run}
+use Rattle.fj_turns.specs.Turns.{hand_at, turn, turn_on}
+use Rattle.fj_turns.specs.Passing.{passed_by, passed_on, passes, output_of, output_due, turn_output, knows_on, told_on, known_due, tells_due}
+use Rattle.fj_cut.specs.Turning.{doing_on, doing_due, turn_doing, IsUnbegun}
 use Rattle.fj_units.specs.Files.{files_of}
 use Rattle.fj_units.specs.Returning.{IsAsDue}
 use Rattle.fj_pending.specs.Plain.{tells_of}
@@ -23,10 +23,11 @@ use Rattle.fj_acts.specs.State.{core_at}
 use Rattle.fj_acts.specs.declared.state.Core.{Core}
 use Rattle.fj_runner.specs.Failing.{IsLoss, FailsStage, StandsAt, StandsDoing, StandsStill, CallsDisk, FailsCall, OfOutside, IsGivenUp, FailsAsking}
 use Rattle.fj_runner.specs.Leaving.{Rests}
-use Rattle.fj_runner.specs.Machine.{rest_of, run_in, run_at, run_of, stage_at}
+use Rattle.fj_runner.specs.Machine.{rest_of, run_at, run_of, stage_at}
 use Rattle.fj_runner.specs.Tallying.{due_of, first_lost}
 use Rattle.fj_runner.specs.declared.hand.Hand.TheVariants.{Idle}
 use Rattle.fj_runner.specs.declared.machine.Machine.{Machine}
+use Rattle.fj_runner.proofs.AtHand.{calls_hand, comes_on, doing_with, knows_with, rest_same, told_with}
 use Rattle.fj_runner.proofs.NextAsks.{run_known, some_same}
 use Rattle.fj_runner.proofs.Runs.{hands_none}
 use Rattle.fj_runner.proofs.Stepping.{hands_both, rose_before}
@@ -157,27 +158,27 @@ module _ {F : Type 0} {ghosts : Ghosts F} where
   }
 
   -- in the turn of the statement at hand
-  pub fails_turn : {W X : Type 0} (tells_out : W → Type 0) (taken : W → List ℕ) (out out' : W) {held : Holdings} {before now : ℕ} (m m' : Machine F ghosts) (x : Result X Lost) (lost : Lost) (st : Stated) (more : List Stated) (r : Run) → x ≡ Err lost
-      → r.rest ≡ st ∷ more → r.core.output ≡ m.state.core.output → rest_of m' ≡ r.rest
+  pub fails_turn : {W X : Type 0} (tells_out : W → Type 0) (taken : W → List ℕ) (out out' : W) {held : Holdings} {before now : ℕ} (m m' : Machine F ghosts) (x : Result X Lost) (lost : Lost) (first hand : Stated) (more : List Stated) (r : Run) → x ≡ Err lost
+      → r.rest ≡ first ∷ more → hand_at first r.stage r ≡ hand → r.core.output ≡ m.state.core.output → rest_of m' ≡ r.rest
       → (tells_out out → x ≡ Err Disk → HandsOver (taken out) (taken out') m.state.core.output m'.state.core.output)
-      → FailsStage tells_out taken out m.state.core x out' m'.state.core held before now st r.stage r → FailsCall (λ lost. x ≡ Err lost) (tells_out out) (taken out) (taken out') held before now r m m'
-  fails_turn {X = X} tells_out taken out out' {held = held} {before = before} {now = now} m m' x lost st more r is h o rest still f = record {
+      → FailsStage tells_out taken out m.state.core x out' m'.state.core held before now hand r.stage (record r { rest = hand ∷ more }) → FailsCall (λ lost. x ≡ Err lost) (tells_out out) (taken out) (taken out') held before now r m m'
+  fails_turn {X = X} tells_out taken out out' {held = held} {before = before} {now = now} m m' x lost first hand more r is h e o rest still f = record {
     count = 0;
     run = r;
     passed = refl;
     rest = rest;
-    front = λ t. by (subst (λ (y : Result X Lost). OnErr y (HandsFront (taken out) (taken out') m.state.core.output (output_of (turn st r.stage r)) ⊎ (taken out' ≡ taken out))) is (f.front t));
+    front = λ t. by (subst (λ (y : Result X Lost). OnErr y (HandsFront (taken out) (taken out') m.state.core.output (output_of (turn_on hand r.stage rr)) ⊎ (taken out' ≡ taken out))) is (f.front t));
     outside = λ o. there (f.known o) (f.stands o);
-    fits = λ idle fits. elim (subst (λ (y : Result X Lost). OnErr y (StandsStill (IsUnbegun r.stage) r m'.state.core held ⊎ (knows_at st r.stage r × StandsDoing (doing_at st r.stage r) m'.state.core held before now))) is (f.fits fits)) [
-      | inl s ↦ inl s
+    fits = λ idle fits. elim (subst (λ (y : Result X Lost). OnErr y (StandsStill (IsUnbegun r.stage) rr m'.state.core held ⊎ (knows_on hand r.stage rr × StandsDoing (doing_on hand r.stage rr) m'.state.core held before now))) is (f.fits fits)) [
+      | inl s ↦ inl (record { may = s.may; units = s.units; files = s.files })
       | inr k ↦ inr (there k.0 k.1)
     ];
     disk = λ d. record {
       output = f.output d ∙ sym o;
       handed = λ t. subst (λ y. HandsOver (taken out) (taken out') m.state.core.output y) (f.output d ∙ sym o) (still t d);
-      tells = f.tells d ∙ ap (λ rest. tells_due rest r) (sym h);
+      tells = f.tells d ∙ told_with hand r.stage r (hand ∷ more) ∙ ap (λ y. told_on y r.stage r) (sym e) ∙ ap (λ rest. tells_due rest r) (sym h);
       rose = f.rose d;
-      called = subst CallsDisk (sym h) (f.called d);
+      called = subst CallsDisk (sym h) (sym (calls_hand first hand r.stage r e) ∙ f.called d);
     };
     sink = λ s t. (
       taken out,
@@ -186,16 +187,20 @@ module _ {F : Type 0} {ghosts : Ghosts F} where
     );
   }
     where
-      there : knows_at st r.stage r → StandsDoing (doing_at st r.stage r) m'.state.core held before now → StandsAt held before now r m'
+      rr : Run
+      rr = record r { rest = hand ∷ more }
+
+      there : knows_on hand r.stage rr → StandsDoing (doing_on hand r.stage rr) m'.state.core held before now → StandsAt held before now r m'
       there known stands = record {
-        known = subst (λ rest. known_due rest r) (sym h) known;
-        does = subst (λ rest. StandsDoing (doing_due rest r) m'.state.core held before now) (sym h) stands;
+        known = subst (λ rest. known_due rest r) (sym h) (subst (λ y. knows_on y r.stage r) (sym e) (knows_with hand r.stage r (hand ∷ more) known));
+        does = subst (λ rest. StandsDoing (doing_due rest r) m'.state.core held before now) (sym h)
+            (subst (λ d. StandsDoing d m'.state.core held before now) (doing_with hand r.stage r (hand ∷ more) ∙ ap (λ y. doing_on y r.stage r) (sym e)) stands);
       }
 
-      due : output_of (turn st r.stage r) ≡ turn_output r
-      due = ap (λ rest. output_due rest r) (sym h)
+      due : output_of (turn_on hand r.stage rr) ≡ turn_output r
+      due = ap output_of (sym (comes_on first hand more r.stage r h e)) ∙ ap (λ rest. output_due rest r) (sym h)
 
-      by : HandsFront (taken out) (taken out') m.state.core.output (output_of (turn st r.stage r)) ⊎ (taken out' ≡ taken out)
+      by : HandsFront (taken out) (taken out') m.state.core.output (output_of (turn_on hand r.stage rr)) ⊎ (taken out' ≡ taken out)
           → HandsFront (taken out) (taken out') m.state.core.output (turn_output r) ⊎ HandsOver (taken out) (taken out') m.state.core.output r.core.output
       by (inl k) = inl (subst (λ y. HandsFront (taken out) (taken out') m.state.core.output y) due k)
       by (inr k) = inr (hands_none (taken out) (taken out') m.state.core.output r.core.output k o)
@@ -257,7 +262,7 @@ module _ {F : Type 0} {ghosts : Ghosts F} where
   pub rests_give_up : (told : F → Bool) (bytes : F → List ℕ) (TellsOut : Type 0) (a : List ℕ) {held : Holdings} {before now : ℕ} (files : Files) (m m' : Machine F ghosts) → m.tally.hand ≢ Idle → Rests m m' → IsGivenUp TellsOut a a held before now (run_of told bytes files m) m m'
   rests_give_up told bytes TellsOut a files m m' asks s r e going over stopped =
       let k = run_known (run_at files m) (stage_at told bytes files m) r e in
-      let rest : rest_of m' ≡ rest_of m = ap (λ d. drop m'.at (stated d.statements)) s.deck ∙ ap (λ i. drop i (stated m.deck.statements)) s.at in
+      let rest = rest_same m m' s.deck s.at in
       fails_none (λ lost. m'.tally.lost ≡ Some lost) TellsOut a r m m' (rest ∙ ap (λ (x : Run). x.rest) k.2) (sym (ap (λ (x : Run). x.core.output) k.2)) (none_rests m m' s going) asks
 
   pub rests_ask : {D : Type 0} (disk : D) (m m' : Machine F ghosts) → Rests m m'
@@ -278,6 +283,5 @@ module _ {F : Type 0} {ghosts : Ghosts F} where
 
 -- ---- the statement at hand
 
-pub passed_at : {F : Type 0} {ghosts : Ghosts F} → (files : Files) (m : Machine F ghosts) (x : Stage) (st : Stated) (more : List Stated) (r : Run) → run_at files m x ≡ r → rest_of m ≡ st ∷ more
-    → passed_on r.rest r ≡ passed_by more (turn st x (run_in m.deck.variables (st ∷ more) files m.state x))
-passed_at files m x st more r e h = ap (λ (y : Run). passed_on y.rest y) (sym e) ∙ ap (λ (rest : List Stated). passed_on rest (run_in m.deck.variables rest files m.state x)) h
+pub passed_at : (st : Stated) (more : List Stated) (r : Run) → r.rest ≡ st ∷ more → passed_on r.rest r ≡ passed_by more (turn st r.stage r)
+passed_at st more r h = ap (λ rest. passed_on rest r) h

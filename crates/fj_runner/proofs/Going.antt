@@ -27,7 +27,7 @@ module _ {W D F : Type 0} {ghosts : Ghosts F} (tells_out : W → Type 0) (taken 
     pub on : m.state.stage ≡ stage.Start → IsAt m → (m'.state.stage ≡ stage.Start) × IsAt m'
     pub sent : m'.state.sent ≡ m.state.sent
     pub heard : m'.state.told ≡ m.state.told
-    pub at : m.at ≤ m'.at
+    pub at : m.at.place ≤ m'.at.place
 
   pub goes_none : (out : W) (disk : D) (m : Machine F ghosts) → GoesOn out disk m out disk m
   goes_none out disk m = record {
@@ -49,7 +49,7 @@ module _ {W D F : Type 0} {ghosts : Ghosts F} (tells_out : W → Type 0) (taken 
       → (tells between → passed_on (rest_of half) (run_at (files_of (held between)) half Start) ≡ Some (run_at (files_of (held disk')) m' Start))
       → m'.deck ≡ half.deck → m'.tally ≡ half.tally → m'.kept ≡ half.kept
       → (half.state.stage ≡ stage.Start → IsAt half → (m'.state.stage ≡ stage.Start) × IsAt m') → m'.state.sent ≡ half.state.sent → m'.state.told ≡ half.state.told
-      → half.at ≤ m'.at → GoesOn out disk m out' disk' m'
+      → half.at.place ≤ m'.at.place → GoesOn out disk m out' disk' m'
   goes_more out mid out' disk between disk' m half m' x a b next passed deck tally kept on sent heard at = record {
     steps = then_steps out mid out' disk between disk' m.state.core half.state.core m'.state.core (tt {0}) (went (tt {0})) a.steps
         (ok_steps mid out' between disk' half.state.core m'.state.core (went x) x (tt {0}) refl b);

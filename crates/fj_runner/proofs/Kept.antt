@@ -1,5 +1,5 @@
 -- The connection of a job that is refused, and the files that are out beside it.
-use Rattle.std.proofs.Common.{◌≡◌, ℕ, true, false, List, [], ◌∷◌, drop, Option, Some, None, IsSome, refl, ap, ◌∙◌, subst, sym}
+use Rattle.std.proofs.Common.{◌≡◌, ℕ, true, false, List, [], ◌∷◌, Option, Some, None, IsSome, refl, ap, ◌∙◌, subst, sym}
 use Rattle.std.specs.Prelude.{◌≢◌, option_and_then, option_map, Result, Ok, Err}
 use Rattle.std.proofs.Props.{props}
 use Rattle.fj_outside.specs.declared.outside.FileStore.{Ghosts}
@@ -11,7 +11,7 @@ use Rattle.fj_bay.specs.declared.job.Job.{Job}
 use Rattle.fj_bay.specs.declared.job.Job.TheVariants as job
 use Rattle.fj_plain.specs.Connecting.{file_due}
 use Rattle.fj_plain.specs.Needs.{number_of}
-use Rattle.fj_plain.specs.Statement.{Stated, stated}
+use Rattle.fj_plain.specs.Statement.{Stated}
 use Rattle.fj_desk.specs.Core.{Connected, connected_at}
 use Rattle.fj_cut.specs.Others.{file_opened, names_of, opens_on}
 use Rattle.fj_world.specs.Giving.{GivesOf}
@@ -33,6 +33,7 @@ use Rattle.fj_runner.specs.declared.machine.Machine.{Machine}
 use Rattle.fj_runner.specs.declared.stage.Stage.{Stage}
 use Rattle.fj_runner.specs.declared.stage.Stage.TheVariants as stage
 use Rattle.fj_runner.specs.declared.state.State.{State}
+use Rattle.fj_runner.proofs.AtHand.{rest_same}
 use Rattle.fj_runner.proofs.GivingUp.{lost_is}
 use Rattle.fj_runner.proofs.Tallies.{not_both}
 
@@ -93,12 +94,9 @@ lost_files {F} {X} {ghosts} Asks Sound result m lost is f = (subst (λ r. Follow
 
 module _ {F : Type 0} {ghosts : Ghosts F} (m m' : Machine F ghosts) where
   -- of the same state at the same statement
-  pub rest_same : m'.deck ≡ m.deck → m'.at ≡ m.at → rest_of m' ≡ rest_of m
-  rest_same deck at = ap (λ n. drop n (stated m'.deck.statements)) at ∙ ap (λ d. drop m.at (stated d.statements)) deck
-
   pub keeps_same : (o : Option (List ℕ)) → m'.deck ≡ m.deck → m'.at ≡ m.at → m'.state ≡ m.state → HaveKeptAt o m → HaveKeptAt o m'
   keeps_same o deck at same have =
-      subst (λ (s : State F ghosts). HaveKept o s.core.names s.core.units (rest_of m')) (sym same) (subst (HaveKept o m.state.core.names m.state.core.units) (sym (rest_same deck at)) have)
+      subst (λ (s : State F ghosts). HaveKept o s.core.names s.core.units (rest_of m')) (sym same) (subst (HaveKept o m.state.core.names m.state.core.units) (sym (rest_same m m' deck at)) have)
 
   pub gives_same : (a : Ask (Job F)) → m'.deck ≡ m.deck → m'.at ≡ m.at → m'.state ≡ m.state → GivesOf MayKeep m a → GivesOf MayKeep m' a
   gives_same (ask.Submit slot given) deck at same have = keeps_same (name_brought given) deck at same have

@@ -18,3 +18,5 @@ pub mod Fits
 pub mod Counting
 pub mod Spending
 pub mod Kept
+pub mod AtHand
+pub mod Begun

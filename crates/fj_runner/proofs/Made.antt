@@ -3,6 +3,7 @@ use Rattle.std.proofs.Common.{◌≡◌, ℕ, zero, suc, ◌≤◌, false, List,
 use Rattle.fj_value.specs.declared.kind.Kind.{Kind}
 use Rattle.fj_value.specs.declared.value.Value.{Value}
 use Rattle.fj_value.specs.declared.value.Value.TheVariants.{Undefined}
+use Rattle.fj_statement.specs.Units.{first_new_code}
 use Rattle.fj_statement.specs.declared.deck.Variable.{Variable}
 use Rattle.fj_store.specs.Storage.{Storage, all_undefined, values_of}
 use Rattle.fj_store.specs.Variables.{Variables}
@@ -41,7 +42,7 @@ abbrev none_written : Output
 none_written = record { text = []; begun = 0; is_open = false }
 
 abbrev made : Files → Variables → List Pending → List Connected → Output → List Tell → Core
-made files vars book units output tells = record { vars = vars; book = book; units = units; files = files; output = output; next = 1; tells = tells }
+made files vars book units output tells = record { vars = vars; book = book; units = units; files = files; output = output; next = 1; new_unit = first_new_code; tells = tells }
 
 pub core_made : (files : Files) (variables : List Variable) (store : Storage) (pending : List code_held.Held) (units : List Connected) (output : Output) (tells : List code_tell.Tell)
     → store ≡ all_undefined (map shape_of variables) → pending ≡ [] → units ≡ [] → output ≡ none_written → tells ≡ []

@@ -12,12 +12,14 @@ use Rattle.fj_turns.specs.Run.{Run, Stage, Start}
 use Rattle.fj_turns.specs.Turns.{Turn, Pauses, Passes, Stops, Asked, turn, turn_start, goes, by_turn, asked, asked_on}
 use Rattle.fj_acts.specs.State.{core_of}
 use Rattle.fj_runner.specs.declared.ending.Ending.{Ending as CodeEnding}
-use Rattle.fj_runner.specs.Machine.{ending_of, stage_of, run_in, run_at, run_of, rest_of}
+use Rattle.fj_runner.specs.Machine.{ending_of, numbered, stage_of, run_in, run_at, run_of, rest_of}
+use Rattle.fj_runner.specs.Handing.{put_in}
 use Rattle.fj_runner.specs.Turned.{IsTask, Pausing, Stands, IsAsked}
 use Rattle.fj_runner.specs.declared.stage.Stage.TheVariants as stage
 use Rattle.fj_statement.specs.declared.deck.Variable.{Variable}
 use Rattle.fj_runner.specs.declared.state.State.{State}
 use Rattle.fj_runner.specs.declared.machine.Machine.{Machine}
+use Rattle.fj_runner.proofs.AtHand.{hand_put}
 use Rattle.fj_runner.proofs.Runs.{goes_with}
 
 pub some_same : {X : Type 0} (x y : X) → Some x ≡ Some y → x ≡ y
@@ -44,6 +46,23 @@ found_at (y ∷ ys) (suc n) x h e = let low : n < length ys = omega (arith, h) i
 
 pub read_at_hand : (sts xs : List Lined) (at : ℕ) (l : Lined) → xs ≡ sts → at < length sts → l ≡ get_or xs at l → drop at (stated sts) ≡ (l, control_by l.what) ∷ drop (at + 1) (stated sts)
 read_at_hand sts xs at l same low e = at_hand_is sts at l (found_at sts at l low (subst (λ (ys : List Lined). l ≡ get_or ys at l) same e))
+
+-- there is one, with its number
+pub some_at : (sts : List Lined) (at : ℕ) → at < length sts → (l : Lined) × (slice_get sts at ≡ Some l)
+some_at [] at h = absurd (omega (arith, h))
+some_at (x ∷ xs) zero h = (x, refl)
+some_at (x ∷ xs) (suc n) h = let low : n < length xs = omega (arith, h) in some_at xs n low
+
+module _ {F : Type 0} {ghosts : Ghosts F} (m : Machine F ghosts) where
+  abbrev pub behind_at : List Stated
+  behind_at = drop (m.at.place + 1) (stated m.deck.statements)
+
+  pub hand_is : (l : Lined) → slice_get m.deck.statements m.at.place ≡ Some l
+      → rest_of m ≡ (record l { what = put_in m.at.number l.what }, control_by (put_in m.at.number l.what)) ∷ behind_at
+  hand_is l e = ap (numbered m.at.number) (at_hand_is m.deck.statements m.at.place l e) ∙ hand_put m.at.number l behind_at
+
+  pub here_at : m.at.place < length m.deck.statements → (st : Stated) × (rest_of m ≡ st ∷ behind_at)
+  here_at low = let l = some_at m.deck.statements m.at.place low in (_, hand_is l.0 l.1)
 
 -- ---- one turn
 
@@ -91,25 +110,25 @@ none_behind [] (suc n) h = refl
 none_behind (x ∷ xs) zero h = absurd (omega (arith, h))
 none_behind (x ∷ xs) (suc n) h = let low : length xs ≤ n = omega (arith, h) in none_behind xs n low
 
+none_numbered : (o : Option ℕ) → numbered o [] ≡ []
+none_numbered None = refl
+none_numbered (Some n) = refl
+
 -- no statement is at hand
-pub done_asked : {F : Type 0} {ghosts : Ghosts F} → (files : Files) (m : Machine F ghosts) (x : Stage) (r : Run) → run_at files m x ≡ r → is_some m.state.ending ≡ false → length m.deck.statements ≤ m.at
+pub done_asked : {F : Type 0} {ghosts : Ghosts F} → (files : Files) (m : Machine F ghosts) (x : Stage) (r : Run) → run_at files m x ≡ r → is_some m.state.ending ≡ false → length m.deck.statements ≤ m.at.place
     → asked r ≡ record { ask = Finished; run = r }
 done_asked files m x r e going low =
-    asked_none r (ap (λ (y : Run). y.ending) (sym e) ∙ not_ended m.state.ending going) (ap (λ (y : Run). y.rest) (sym e) ∙ none_behind m.deck.statements m.at low)
+    asked_none r (ap (λ (y : Run). y.ending) (sym e) ∙ not_ended m.state.ending going) (ap (λ (y : Run). y.rest) (sym e) ∙ ap (numbered m.at.number) (none_behind m.deck.statements m.at.place low) ∙ none_numbered m.at.number)
 
--- the statement at hand goes on from its stage
-pub asked_at : {F : Type 0} {ghosts : Ghosts F} → (files : Files) (m : Machine F ghosts) (x : Stage) (st : Stated) (more : List Stated) (r : Run) → run_at files m x ≡ r → option_map ending_of m.state.ending ≡ None → rest_of m ≡ st ∷ more
-    → asked r ≡ by_turn more (turn st x (run_in m.deck.variables (st ∷ more) files m.state x))
-asked_at files m x st more r e none h =
-    ap asked (sym e) ∙ asked_turn st more (run_at files m x) none h ∙ ap (λ (rest : List Stated). by_turn more (turn st x (run_in m.deck.variables rest files m.state x))) h
-
-pub goes_at : {F : Type 0} {ghosts : Ghosts F} → (files : Files) (m : Machine F ghosts) (st : Stated) (more : List Stated) → rest_of m ≡ st ∷ more
-    → goes (rest_of m) (run_at files m Start) ≡ by_turn more (turn_start st (run_in m.deck.variables (st ∷ more) files m.state Start))
-goes_at files m st more h = ap (λ (rest : List Stated). goes rest (run_at files m Start)) h ∙ goes_turn st more (run_at files m Start)
+pub goes_at : (st : Stated) (more : List Stated) (r : Run) → r.rest ≡ st ∷ more → goes r.rest r ≡ by_turn more (turn_start st r)
+goes_at st more r h = ap (λ rest. goes rest r) h ∙ goes_turn st more r ∙ ap (λ rest. by_turn more (turn_start st (record r { rest = rest }))) (sym h)
 
 pub run_known : {X Y : Type 0} (f : X → Y) (o : Option X) (r : Y) → option_map f o ≡ Some r → (x : X) × (o ≡ Some x) × (f x ≡ r)
 run_known f None r e = cc
 run_known f (Some x) r e = (x, refl, some_same (f x) r e)
+
+pub at_start : {F : Type 0} {ghosts : Ghosts F} → (told : F → Bool) (bytes : F → List ℕ) (files : Files) (m : Machine F ghosts) → m.state.stage ≡ stage.Start → run_of told bytes files m ≡ Some (run_at files m Start)
+at_start told bytes files m h = ap (λ st. option_map (run_at files m) (stage_of told bytes m.deck.variables (rest_of m) (core_of files m.state.core) st)) h
 
 -- ---- what it comes to
 
@@ -117,11 +136,8 @@ module _ {F : Type 0} {ghosts : Ghosts F} (told : F → Bool) (bytes : F → Lis
   pub pausing_asks : (ask : Ask (Job F)) → Pausing told bytes m.deck.variables (rest_of m) files m.state ask t → IsAsked told bytes files m ask (by_turn more t)
   pausing_asks ask p = subst (λ t. IsAsked told bytes files m ask (by_turn more t)) (sym p.comes) (record { run = ap (option_map (run_at files m)) p.stands; asks = p.asks })
 
-  at_start : m.state.stage ≡ stage.Start → run_of told bytes files m ≡ Some (run_at files m Start)
-  at_start h = ap (λ st. option_map (run_at files m) (stage_of told bytes m.deck.variables (rest_of m) (core_of files m.state.core) st)) h
-
   pub stops_asks : m.state.stage ≡ stage.Start → t ≡ Stops (run_at files m Start) → IsAsked told bytes files m Finished (by_turn more t)
-  stops_asks h e = subst (λ t. IsAsked told bytes files m Finished (by_turn more t)) (sym e) (record { run = at_start h; asks = tt })
+  stops_asks h e = subst (λ t. IsAsked told bytes files m Finished (by_turn more t)) (sym e) (record { run = at_start told bytes files m h; asks = tt })
 
   pub passes_goes : t ≡ Passes (run_at files m Start) → by_turn more t ≡ goes more (run_in m.deck.variables more files m.state Start)
   passes_goes e = ap (by_turn more) e ∙ goes_with more (rest_of m) (run_in m.deck.variables more files m.state Start)

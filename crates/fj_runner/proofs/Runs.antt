@@ -9,10 +9,11 @@ use Rattle.fj_store.specs.Storage.{values_of}
 use Rattle.fj_store.specs.Variables.{Variables}
 use Rattle.fj_items.specs.Handing.{HandsOver, whole_records}
 use Rattle.fj_plain.specs.State.{Files, Entry, Output}
-use Rattle.fj_plain.specs.Statement.{Stated, ends, iostat_of}
+use Rattle.fj_plain.specs.Statement.{Stated, ends, iostat_of, new_place, next_new, with_new_unit}
 use Rattle.fj_plain.specs.Telling.{tells_id}
 use Rattle.fj_plain.specs.Transfers.{with_number}
 use Rattle.fj_desk.specs.Core.{Core, Pending}
+use Rattle.fj_desk.specs.Desking.{defined}
 use Rattle.fj_turns.specs.Run.{Run, Held, Stage}
 use Rattle.fj_turns.specs.Turns.{matched, with_core, finish_by, turn_finish, goes}
 use Rattle.fj_pending.specs.Plain.{held, pending_of}
@@ -49,13 +50,15 @@ module _ {F : Type 0} {ghosts : Ghosts F} (variables : List Variable) (rest : Li
   pub with_core_is : with_core (core_of files s.core) (record (run_in variables rest files s stage) { core = core; book = book }) ≡ run_in variables rest files s stage
   with_core_is = ap (λ b. record (run_in variables rest files s stage) { book = b }) (sym e)
 
-  pub finish_is : (st : Stated) (condition : Condition) (vars : Variables) → vars ≡ with_number variables (iostat_of st.0.what) (code_of condition) (values_of s.core.store)
+  pub finish_is : (st : Stated) (condition : Condition) (vars : Variables) (new_unit : ℕ)
+      → vars ≡ with_number variables (iostat_of st.0.what) (code_of condition) (with_new_unit variables st.0.what condition s.core.new_unit (values_of s.core.store))
+      → new_unit ≡ next_new (new_place st.0.what condition) s.core.new_unit
       → turn_finish st (core_of files s.core) condition (record (run_in variables rest files s stage) { core = core; book = book })
-      ≡ finish_by (ends st.0.line st.0.what condition) (record (run_in variables rest files s stage) { core = record (core_of files s.core) { vars = vars } })
-  finish_is st condition vars v = ap (λ b. finish_by (ends st.0.line st.0.what condition) (record (run_in variables rest files s stage) {
-    core = record (core_of files s.core) { vars = with_number variables (iostat_of st.0.what) (code_of condition) (values_of s.core.store) };
-    book = b;
-  })) (sym e) ∙ ap (λ vs. finish_by (ends st.0.line st.0.what condition) (record (run_in variables rest files s stage) { core = record (core_of files s.core) { vars = vs } })) (sym v)
+      ≡ finish_by (ends st.0.line st.0.what condition) (record (run_in variables rest files s stage) { core = record (core_of files s.core) { vars = vars; new_unit = new_unit } })
+  finish_is st condition vars new_unit v n =
+      ap (λ b. finish_by (ends st.0.line st.0.what condition) (record (run_in variables rest files s stage) { core = defined variables st.0.what condition (core_of files s.core); book = b })) (sym e)
+      ∙ ap (λ vs. finish_by (ends st.0.line st.0.what condition) (record (run_in variables rest files s stage) { core = record (core_of files s.core) { vars = vs; new_unit = next_new (new_place st.0.what condition) s.core.new_unit } })) (sym v)
+      ∙ ap (λ u. finish_by (ends st.0.line st.0.what condition) (record (run_in variables rest files s stage) { core = record (core_of files s.core) { vars = vars; new_unit = u } })) (sym n)
 
 -- ---- statements one after another
 

@@ -17,17 +17,18 @@ use Rattle.fj_turns.specs.Run.{Run}
 use Rattle.fj_turns.specs.Turns.{asked}
 use Rattle.fj_acts.specs.State.{core_of}
 use Rattle.fj_runner.specs.Leaving.{Leaves, Rests}
-use Rattle.fj_runner.specs.Machine.{run_in, run_of, stage_of}
+use Rattle.fj_runner.specs.Machine.{numbered, run_in, run_of, stage_of}
 use Rattle.fj_runner.specs.Tallying.{due_of, owed_at, MaySubmit, MaySettle}
 use Rattle.fj_runner.specs.Turned.{IsTask, IsAsked}
 use Rattle.fj_runner.specs.declared.hand.Hand.{Hand}
 use Rattle.fj_runner.specs.declared.hand.Hand.TheVariants.{Idle, Submitting, Settling}
 use Rattle.fj_runner.specs.declared.state.State.{State}
+use Rattle.fj_runner.specs.declared.machine.AtHand.{AtHand}
 use Rattle.fj_runner.specs.declared.machine.Machine.{Machine}
 use Rattle.fj_runner.proofs.Runs.{hands_none, takes_none}
 
-abbrev run_by : {F : Type 0} {ghosts : Ghosts F} → (F → Bool) → (F → List ℕ) → Files → Deck → ℕ → State F ghosts → Option Run
-run_by told bytes files deck at s = option_map (run_in deck.variables (drop at (stated deck.statements)) files s) (stage_of told bytes deck.variables (drop at (stated deck.statements)) (core_of files s.core) s.stage)
+abbrev run_by : {F : Type 0} {ghosts : Ghosts F} → (F → Bool) → (F → List ℕ) → Files → Deck → AtHand → State F ghosts → Option Run
+run_by told bytes files deck at s = option_map (run_in deck.variables (numbered at.number (drop at.place (stated deck.statements))) files s) (stage_of told bytes deck.variables (numbered at.number (drop at.place (stated deck.statements))) (core_of files s.core) s.stage)
 
 -- the run of a machine does not show its tally
 pub run_same : {F : Type 0} {ghosts : Ghosts F} → (told : F → Bool) (bytes : F → List ℕ) (files : Files) (m m' : Machine F ghosts) → m'.deck ≡ m.deck → m'.at ≡ m.at → m'.state ≡ m.state → run_of told bytes files m' ≡ run_of told bytes files m

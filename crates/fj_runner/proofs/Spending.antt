@@ -98,9 +98,9 @@ pub from_later : (statements at at' : ℕ) → at ≤ at' → jobs_from statemen
 from_later statements at at' low = omega (arith, low)
 
 module _ {F J : Type 0} {ghosts : Ghosts F} where
-  pub spent_paused : (a : Ask J) (m : Machine F ghosts) (jobs : ℕ) → Gives a (jobs_at m.state.stage (length m.state.core.units)) jobs → Spent a (jobs + jobs_from (length m.deck.statements) (m.at + 1)) m
-  spent_paused (ask.Submit slot job) m jobs g = gives_more (ask.Submit slot job) (jobs_at m.state.stage (length m.state.core.units)) jobs (jobs_from (length m.deck.statements) (m.at + 1)) g
-  spent_paused (ask.Settle slot) m jobs g = gives_more {J = J} (ask.Settle slot) (jobs_at m.state.stage (length m.state.core.units)) jobs (jobs_from (length m.deck.statements) (m.at + 1)) g
+  pub spent_paused : (a : Ask J) (m : Machine F ghosts) (jobs : ℕ) → Gives a (jobs_at m.state.stage (length m.state.core.units)) jobs → Spent a (jobs + jobs_from (length m.deck.statements) (m.at.place + 1)) m
+  spent_paused (ask.Submit slot job) m jobs g = gives_more (ask.Submit slot job) (jobs_at m.state.stage (length m.state.core.units)) jobs (jobs_from (length m.deck.statements) (m.at.place + 1)) g
+  spent_paused (ask.Settle slot) m jobs g = gives_more {J = J} (ask.Settle slot) (jobs_at m.state.stage (length m.state.core.units)) jobs (jobs_from (length m.deck.statements) (m.at.place + 1)) g
   spent_paused ask.Finished m jobs g = absurd g
 
   pub spent_le : (a : Ask J) (m : Machine F ghosts) (jobs jobs' : ℕ) → jobs ≤ jobs' → Spent a jobs m → Spent a jobs' m
@@ -108,7 +108,7 @@ module _ {F J : Type 0} {ghosts : Ghosts F} where
   spent_le (ask.Settle slot) m jobs jobs' low g = gives_le {J = J} (ask.Settle slot) (jobs_left m) jobs jobs' low g
   spent_le ask.Finished m jobs jobs' low g = g
 
-  pub lives : (a : Ask J) (m : Machine F ghosts) → m.state.ending ≡ None → m.at < length m.deck.statements → Lives a m
+  pub lives : (a : Ask J) (m : Machine F ghosts) → m.state.ending ≡ None → m.at.place < length m.deck.statements → Lives a m
   lives (ask.Submit slot job) m none low = (none, low)
   lives (ask.Settle slot) m none low = (none, low)
   lives ask.Finished m none low = tt
@@ -117,7 +117,7 @@ module _ {F J : Type 0} {ghosts : Ghosts F} where
   ok_spent (Ok a) m jobs jobs' low g = spent_le a m jobs jobs' low g
   ok_spent (Err e) m jobs jobs' low g = tt
 
-  pub ok_lives : {E : Type 0} → (r : Result (Ask J) E) (m m' : Machine F ghosts) (jobs : ℕ) → m.state.ending ≡ None → m.at < length m.deck.statements → IfOk r (λ a. Spent a jobs m') → IfOk r (λ a. Spent a jobs m' × Lives a m)
+  pub ok_lives : {E : Type 0} → (r : Result (Ask J) E) (m m' : Machine F ghosts) (jobs : ℕ) → m.state.ending ≡ None → m.at.place < length m.deck.statements → IfOk r (λ a. Spent a jobs m') → IfOk r (λ a. Spent a jobs m' × Lives a m)
   ok_lives (Ok a) m m' jobs none low g = (g, lives a m none low)
   ok_lives (Err e) m m' jobs none low g = tt
 

@@ -11,9 +11,9 @@ use Rattle.fj_plain.specs.State.{Output, Tell}
 use Rattle.fj_plain.specs.Statement.{Stated}
 use Rattle.fj_desk.specs.Doing.{Doing}
 use Rattle.fj_turns.specs.Run.{Run, Stage}
-use Rattle.fj_turns.specs.Turns.{turn}
-use Rattle.fj_turns.specs.Passing.{passes, output_of, turn_output, knows_at, told_at, KnowsAnswers, turn_tells}
-use Rattle.fj_cut.specs.Turning.{doing_at, turn_doing, IsUnbegun}
+use Rattle.fj_turns.specs.Turns.{turn_on}
+use Rattle.fj_turns.specs.Passing.{passes, output_of, turn_output, knows_on, told_on, KnowsAnswers, turn_tells}
+use Rattle.fj_cut.specs.Turning.{doing_on, turn_doing, IsUnbegun}
 use Rattle.fj_pending.specs.Plain.{tells_of}
 use Rattle.fj_units.specs.Files.{files_of}
 use Rattle.fj_acts.specs.Calling.{calls_disk}
@@ -65,10 +65,10 @@ pub record FailsTurn {W X : Type 0} (tells_out : W → Type 0) (taken : W → Li
   pub called : result ≡ Err Disk → Called
   pub begun : tells_out out → result ≡ Err Sink → HandsPart (taken out) (taken out') core.output due
 
--- the turn of a statement from a stage
+-- the turn of a statement that has begun, from a stage
 abbrev pub FailsStage : {W X : Type 0} → (W → Type 0) → (W → List ℕ) → W → Core → Result X Lost → W → Core → Holdings → ℕ → ℕ → Stated → Stage → Run → Type 0
 FailsStage tells_out taken out core result out' core' held before now st stage r =
-    FailsTurn tells_out taken out core result out' core' held before now (output_of (turn st stage r)) (StandsStill (IsUnbegun stage) r core' held) (knows_at st stage r) (told_at st stage r) (doing_at st stage r) (calls_disk st.0.what ≡ true)
+    FailsTurn tells_out taken out core result out' core' held before now (output_of (turn_on st stage r)) (StandsStill (IsUnbegun stage) r core' held) (knows_on st stage r) (told_on st stage r) (doing_on st stage r) (calls_disk st.0.what ≡ true)
 
 -- ---- one call
 

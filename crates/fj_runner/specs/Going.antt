@@ -118,13 +118,13 @@ AwaitsAtHand _ s = Unit {0}
 -- `*` is within its limit.
 pub record IsAt {F : Type 0} {ghosts : Ghosts F} (m : Machine F ghosts) : Type 0 where
   pub files : (st : Stated) (more : List Stated) → rest_of m ≡ st ∷ more → HaveAt m.state.stage m.state.core.names m.state.core.units st.0.what
-  pub few : m.state.ending ≡ None → m.state.core.next ≤ m.at + 1
+  pub few : m.state.ending ≡ None → m.state.core.next ≤ m.at.place + 1
   pub kept : IsKept m.state.core
 
 -- what follows from a turn of the statement at hand that brought the state here
 abbrev pub FromTurn : {F : Type 0} {ghosts : Ghosts F} → Machine F ghosts → Turned F → Type 0 → Type 0
 FromTurn {F} {ghosts} m t P = (s : State F ghosts) (st : Stated) (more : List Stated) → rest_of m ≡ st ∷ more → HaveTurned t m.state st.0.what → Counts t s m.state
-    → (s.ending ≡ None → s.core.next ≤ m.at + 1) → IsKept m.state.core → P
+    → (s.ending ≡ None → s.core.next ≤ m.at.place + 1) → IsKept m.state.core → P
 
 -- from where it began, and what it counts
 abbrev pub SinceTurn : {F : Type 0} {ghosts : Ghosts F} → Machine F ghosts → Turned F → (State F ghosts → Type 0) → Type 0

@@ -16,3 +16,4 @@ pub mod Fitting
 pub mod Going
 pub mod Spending
 pub mod Kept
+pub mod Handing

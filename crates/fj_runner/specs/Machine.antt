@@ -1,7 +1,8 @@
 -- The runner as plain data.
-use Rattle.std.specs.Prelude.{ℕ, Bool, List, [], ◌∷◌, drop, Option, Some, None}
+use Rattle.std.specs.Prelude.{ℕ, ◌+◌, Bool, List, [], ◌∷◌, drop, Option, Some, None}
 use Rattle.std.specs.Option.{option_map}
 use Rattle.fj_statement.specs.declared.deck.Variable.{Variable}
+use Rattle.fj_statement.specs.Units.{with_number}
 use Rattle.fj_bay.specs.Plain.{task_of, reply_of}
 use Rattle.fj_plain.specs.State.{Files}
 use Rattle.fj_plain.specs.Statement.{Stated, stated, Ending as PlainEnding, ended, error_stop, prohibition}
@@ -19,6 +20,7 @@ use Rattle.fj_runner.specs.declared.ending.Ending.TheVariants as ending
 use Rattle.fj_runner.specs.declared.stage.Stage.{Stage}
 use Rattle.fj_runner.specs.declared.stage.Stage.TheVariants as stage
 use Rattle.fj_runner.specs.declared.state.State.{State}
+use Rattle.fj_runner.specs.declared.machine.AtHand.{AtHand}
 use Rattle.fj_runner.specs.declared.machine.Machine.{Machine}
 
 abbrev pub ending_of : Ending → PlainEnding
@@ -56,9 +58,23 @@ run_in variables rest files s stage = record {
   ending = option_map ending_of s.ending;
 }
 
--- the statement at hand and those behind it
+-- the first of them, its unit having this number
+abbrev pub begun_with : ℕ → Stated → Stated
+begun_with number st = (record st.0 { what = with_number number st.0.what }, st.1)
+
+-- or as it stands in the deck
+abbrev pub numbered : Option ℕ → List Stated → List Stated
+numbered None sts = sts
+numbered (Some number) [] = []
+numbered (Some number) (st ∷ more) = begun_with number st ∷ more
+
+-- the one behind it, which has not begun
+abbrev pub behind : AtHand → AtHand
+behind at = record { place = at.place + 1; number = None }
+
+-- the statement at hand, which has its number once it has begun, and those behind it
 abbrev pub rest_of : {F : Type 0} {ghosts : Ghosts F} → Machine F ghosts → List Stated
-rest_of m = drop m.at (stated m.deck.statements)
+rest_of m = numbered m.at.number (drop m.at.place (stated m.deck.statements))
 
 -- the runner at that stage, over a disk that has these files
 abbrev pub run_at : {F : Type 0} {ghosts : Ghosts F} → Files → Machine F ghosts → PlainStage → Run

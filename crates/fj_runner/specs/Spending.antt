@@ -32,7 +32,7 @@ jobs_from statements at = (statements - at) * most_jobs
 
 -- by the statement at hand and those behind it
 abbrev pub jobs_left : {F : Type 0} {ghosts : Ghosts F} → Machine F ghosts → ℕ
-jobs_left m = jobs_at m.state.stage (length m.state.core.units) + jobs_from (length m.deck.statements) (m.at + 1)
+jobs_left m = jobs_at m.state.stage (length m.state.core.units) + jobs_from (length m.deck.statements) (m.at.place + 1)
 
 -- ---- what is given of so many jobs
 
@@ -49,13 +49,13 @@ Spends jobs _ s = Unit {0}
 
 -- by a call; nothing is asked where the deck ended
 abbrev pub Spent : {F J : Type 0} {ghosts : Ghosts F} → Ask J → ℕ → Machine F ghosts → Type 0
-Spent ask.Finished jobs m = m.state.ending ≡ None → length m.deck.statements ≤ m.at
+Spent ask.Finished jobs m = m.state.ending ≡ None → length m.deck.statements ≤ m.at.place
 Spent a jobs m = Gives a (jobs_left m) jobs
 
 -- something is asked at a statement alone
 abbrev pub Lives : {F J : Type 0} {ghosts : Ghosts F} → Ask J → Machine F ghosts → Type 0
 Lives ask.Finished m = Unit {0}
-Lives _ m = (m.state.ending ≡ None) × (m.at < length m.deck.statements)
+Lives _ m = (m.state.ending ≡ None) × (m.at.place < length m.deck.statements)
 
 -- ---- asks
 
@@ -66,4 +66,4 @@ asks_for _ = 0
 
 -- as many are left as the deck may still make
 abbrev pub HasAsks : {F : Type 0} {ghosts : Ghosts F} → Machine F ghosts → Type 0
-HasAsks m = m.state.ending ≡ None → m.at < length m.deck.statements → sum m.tally.owed.items + 2 * jobs_left m + asks_for m.tally.hand ≤ m.tally.left
+HasAsks m = m.state.ending ≡ None → m.at.place < length m.deck.statements → sum m.tally.owed.items + 2 * jobs_left m + asks_for m.tally.hand ≤ m.tally.left

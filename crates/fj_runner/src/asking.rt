@@ -10,7 +10,7 @@ ghost use Rattle.fj_units.specs.Names.{AreInUse};
 ghost use Rattle.fj_units.specs.Files.{files_of};
 ghost use Rattle.fj_world.specs.Giving.{GivesOf};
 ghost use Rattle.fj_runner.specs.Kept.{Follows, MayKeep};
-ghost use Rattle.fj_runner.specs.Machine.{rest_of, run_at, run_of};
+ghost use Rattle.fj_runner.specs.Machine.{behind, rest_of, run_at, run_of};
 ghost use Rattle.fj_runner.specs.Turned.{IsTurn, IsAsked};
 ghost use Rattle.fj_runner.specs.Stepping.{Steps};
 ghost use Rattle.fj_runner.specs.Failing.{FailsCall};
@@ -18,8 +18,8 @@ ghost use Rattle.fj_runner.specs.Fitting.{HasRoom};
 ghost use Rattle.fj_runner.specs.Spending.{Lives, Spends, Spent, jobs_from, jobs_left};
 ghost use Rattle.fj_runner.specs.Going.{DoesNotPause, FromTurn, IsAt, KeepsToSlots, SentFor, SinceTurn};
 
-use crate::machine::Machine;
-use crate::stage::Stage;
+use crate::machine::{AtHand, Machine};
+use crate::stage::{Stage, put_start};
 use crate::turned::Turned;
 use fj_bay::Job;
 use fj_items::Lost;
@@ -30,16 +30,16 @@ use std::alloc::Global;
 impl<F: FileStore> Machine<F> {
     /// What a turn asks; none where the next statement is at hand.
     fn asked_by(&mut self, turned: Turned<F>) -> Option<Ask<Job<F>>>
-        requires at { self.old.at < length self.old.deck.statements }
+        requires at { self.old.at.place < length self.old.deck.statements }
         requires starts { turned ≡ Turned.Passes → self.old.state.stage ≡ Stage.Start }
         ensures asks { (files : Files) (t : Turn) → IsTurn F.told F.bytes self.old.deck.variables (rest_of self.old) files self.old.state turned t
-            → IfSome result (λ ask. IsAsked F.told F.bytes files self.new ask (by_turn (drop (self.old.at + 1) (stated self.old.deck.statements)) t)) }
+            → IfSome result (λ ask. IsAsked F.told F.bytes files self.new ask (by_turn (drop (self.old.at.place + 1) (stated self.old.deck.statements)) t)) }
         ensures passes { (files : Files) (t : Turn) → IsTurn F.told F.bytes self.old.deck.variables (rest_of self.old) files self.old.state turned t
-            → IfNone result ((self.new.state.stage ≡ Stage.Start) × (by_turn (drop (self.old.at + 1) (stated self.old.deck.statements)) t
+            → IfNone result ((self.new.state.stage ≡ Stage.Start) × (by_turn (drop (self.old.at.place + 1) (stated self.old.deck.statements)) t
             ≡ goes (rest_of self.new) (run_at files self.new Start))) }
         ensures passed { (files : Files) (t : Turn) → IsTurn F.told F.bytes self.old.deck.variables (rest_of self.old) files self.old.state turned t
-            → IfNone result (passed_by (drop (self.old.at + 1) (stated self.old.deck.statements)) t ≡ Some (run_at files self.new Start)) }
-        ensures at { IfNone result (self.new.at ≡ self.old.at + 1) }
+            → IfNone result (passed_by (drop (self.old.at.place + 1) (stated self.old.deck.statements)) t ≡ Some (run_at files self.new Start)) }
+        ensures at { IfNone result (self.new.at ≡ behind self.old.at) }
         ensures deck { self.new.deck ≡ self.old.deck }
         ensures on { FromTurn self.old turned (IsAt self.new) }
         ensures gives { FromTurn self.old turned (IfSome result (GivesOf MayKeep self.new)) }
@@ -49,7 +49,7 @@ impl<F: FileStore> Machine<F> {
         ensures sent { SinceTurn self.old turned (λ s. IfSome result (λ ask. SentFor ask s.sent.items self.new.state.sent.items)) }
         ensures slots { SinceTurn self.old turned (λ s. IfSome result (λ ask. KeepsToSlots ask self.new.state)) }
         ensures spends { (jobs : ℕ) → Spends jobs turned self.old.state
-            → SinceTurn self.old turned (λ s. IfSome result (λ ask. Spent ask (jobs + jobs_from (length self.old.deck.statements) (self.old.at + 1)) self.new)) }
+            → SinceTurn self.old turned (λ s. IfSome result (λ ask. Spent ask (jobs + jobs_from (length self.old.deck.statements) (self.old.at.place + 1)) self.new)) }
         ensures state { self.new.state ≡ self.old.state }
         ensures tally { self.new.tally ≡ self.old.tally }
         ensures kept { self.new.kept ≡ self.old.kept }
@@ -58,7 +58,10 @@ impl<F: FileStore> Machine<F> {
             Turned::Pauses(ask) => Some(ask),
             Turned::Passes => {
                 let _count = self.deck.statements.len();
-                self.at += 1;
+                self.at = AtHand {
+                    place: self.at.place + 1,
+                    number: None,
+                };
                 None
             }
             Turned::Stops => Some(Ask::Finished),
@@ -73,7 +76,7 @@ impl<F: FileStore> Machine<F> {
         out: &mut W,
     ) -> Result<Option<Ask<Job<F>>>, Lost>
         requires names { D.tells disk.old → AreInUse self.old.state.core.names (D.held disk.old).in_use }
-        requires at { self.old.at < length self.old.deck.statements }
+        requires at { self.old.at.place < length self.old.deck.statements }
         requires room { HasRoom self.old.state.sent.items }
         ensures asks { D.tells disk.old → IfOk result (λ o. IfSome o (λ ask. IsAsked F.told F.bytes (files_of (D.held disk.new)) self.new ask
             (goes (rest_of self.old) (run_at (files_of (D.held disk.old)) self.old Start)))) }
@@ -84,24 +87,21 @@ impl<F: FileStore> Machine<F> {
         ensures fails { D.tells disk.old → OnErr result (FailsCall (λ lost. result ≡ Err lost) (W.tells out.old) (W.taken out.old) (W.taken out.new)
             (D.held disk.new) (D.refusals disk.old) (D.refusals disk.new)
             (run_at (files_of (D.held disk.old)) self.old Start) self.old self.new) }
-        ensures at { IfOk result (λ o. IfNone o (self.new.at ≡ self.old.at + 1)) }
+        ensures at { IfOk result (λ o. IfNone o (self.new.at.place ≡ self.old.at.place + 1)) }
         ensures follows { self.old.state.stage ≡ Stage.Start → IsAt self.old → Follows (λ o. IfSome o (GivesOf MayKeep self.new) × IfNone o (self.new.state.stage ≡ Stage.Start))
             (IsSound self.old.deck) result self.new }
         ensures sent { IfOk result (λ o. IfSome o (λ ask. SentFor ask self.old.state.sent.items self.new.state.sent.items)) }
         ensures slots { IfOk result (λ o. IfSome o (λ ask. KeepsToSlots ask self.new.state)) }
         ensures still { IfOk result (λ o. IfNone o (self.new.state.sent ≡ self.old.state.sent)) }
-        ensures spends { IfOk result (λ o. IfSome o (λ ask. Spent ask (jobs_from (length self.old.deck.statements) self.old.at) self.new)) }
+        ensures spends { IfOk result (λ o. IfSome o (λ ask. Spent ask (jobs_from (length self.old.deck.statements) self.old.at.place) self.new)) }
         ensures heard { self.new.state.told ≡ self.old.state.told }
         ensures steps { Steps W.tells W.taken W.count D.tells D.held D.count D.refusals out.old disk.old self.old.state.core result out.new disk.new self.new.state.core }
         ensures deck { self.new.deck ≡ self.old.deck }
         ensures tally { self.new.tally ≡ self.old.tally }
         ensures kept { self.new.kept ≡ self.old.kept }
     {
-        let lined = &self.deck.statements.as_slice()[self.at];
-        match self
-            .state
-            .start(alloc, &self.deck.variables, lined, disk, out)
-        {
+        put_start(&mut self.state.stage);
+        match self.turn(alloc, disk, out) {
             Ok(turned) => Ok(self.asked_by(turned)),
             Err(lost) => Err(lost),
         }
@@ -119,7 +119,7 @@ impl<F: FileStore> Machine<F> {
         ensures asks { D.tells disk.old → self.old.state.stage ≡ Stage.Start → IfOk result (λ ask. IsAsked F.told F.bytes (files_of (D.held disk.new)) self.new ask
             (goes (rest_of self.old) (run_at (files_of (D.held disk.old)) self.old Start))) }
         ensures follows { self.old.state.stage ≡ Stage.Start → IsAt self.old → Follows (GivesOf MayKeep self.new) (IsSound self.old.deck) result self.new }
-        ensures spends { IfOk result (λ ask. Spent ask (jobs_from (length self.old.deck.statements) self.old.at) self.new) }
+        ensures spends { IfOk result (λ ask. Spent ask (jobs_from (length self.old.deck.statements) self.old.at.place) self.new) }
         ensures sent { IfOk result (λ ask. SentFor ask self.old.state.sent.items self.new.state.sent.items) }
         ensures slots { IfOk result (λ ask. KeepsToSlots ask self.new.state) }
         ensures heard { self.new.state.told ≡ self.old.state.told }
@@ -131,7 +131,7 @@ impl<F: FileStore> Machine<F> {
         ensures tally { self.new.tally ≡ self.old.tally }
         ensures kept { self.new.kept ≡ self.old.kept }
     {
-        while self.at < self.deck.statements.len() {
+        while self.at.place < self.deck.statements.len() {
             let asked = match self.begin_next(alloc, disk, out) {
                 Ok(asked) => asked,
                 Err(lost) => return Err(lost),
@@ -152,20 +152,20 @@ impl<F: FileStore> Machine<F> {
         out: &mut W,
     ) -> Result<Ask<Job<F>>, Lost>
         requires names { D.tells disk.old → AreInUse self.old.state.core.names (D.held disk.old).in_use }
-        requires at { self.old.at < length self.old.deck.statements }
+        requires at { self.old.at.place < length self.old.deck.statements }
         requires starts { turned ≡ Turned.Passes → self.old.state.stage ≡ Stage.Start }
         requires room { DoesNotPause turned → HasRoom self.old.state.sent.items }
         ensures asks { D.tells disk.old → (t : Turn) → IsTurn F.told F.bytes self.old.deck.variables (rest_of self.old) (files_of (D.held disk.old)) self.old.state turned t
-            → IfOk result (λ ask. IsAsked F.told F.bytes (files_of (D.held disk.new)) self.new ask (by_turn (drop (self.old.at + 1) (stated self.old.deck.statements)) t)) }
+            → IfOk result (λ ask. IsAsked F.told F.bytes (files_of (D.held disk.new)) self.new ask (by_turn (drop (self.old.at.place + 1) (stated self.old.deck.statements)) t)) }
         ensures follows { FromTurn self.old turned (Follows (GivesOf MayKeep self.new) (IsSound self.old.deck) result self.new) }
         ensures spends { (jobs : ℕ) → Spends jobs turned self.old.state
-            → SinceTurn self.old turned (λ s. IfOk result (λ ask. Spent ask (jobs + jobs_from (length self.old.deck.statements) (self.old.at + 1)) self.new)) }
+            → SinceTurn self.old turned (λ s. IfOk result (λ ask. Spent ask (jobs + jobs_from (length self.old.deck.statements) (self.old.at.place + 1)) self.new)) }
         ensures sent { SinceTurn self.old turned (λ s. IfOk result (λ ask. SentFor ask s.sent.items self.new.state.sent.items)) }
         ensures slots { SinceTurn self.old turned (λ s. IfOk result (λ ask. KeepsToSlots ask self.new.state)) }
         ensures heard { self.new.state.told ≡ self.old.state.told }
         ensures steps { Steps W.tells W.taken W.count D.tells D.held D.count D.refusals out.old disk.old self.old.state.core result out.new disk.new self.new.state.core }
         ensures fails { D.tells disk.old → (t : Turn) → IsTurn F.told F.bytes self.old.deck.variables (rest_of self.old) (files_of (D.held disk.old)) self.old.state turned t
-            → OnErr result ((r : Run) × (passed_by (drop (self.old.at + 1) (stated self.old.deck.statements)) t ≡ Some r)
+            → OnErr result ((r : Run) × (passed_by (drop (self.old.at.place + 1) (stated self.old.deck.statements)) t ≡ Some r)
             × FailsCall (λ lost. result ≡ Err lost) (W.tells out.old) (W.taken out.old) (W.taken out.new) (D.held disk.new) (D.refusals disk.old) (D.refusals disk.new) r self.old self.new) }
         ensures deck { self.new.deck ≡ self.old.deck }
         ensures tally { self.new.tally ≡ self.old.tally }
@@ -200,14 +200,10 @@ impl<F: FileStore> Machine<F> {
         ensures tally { self.new.tally ≡ self.old.tally }
         ensures kept { self.new.kept ≡ self.old.kept }
     {
-        if self.state.ending.is_some() || self.at >= self.deck.statements.len() {
+        if self.state.ending.is_some() || self.at.place >= self.deck.statements.len() {
             return Ok(Ask::Finished);
         }
-        let lined = &self.deck.statements.as_slice()[self.at];
-        match self
-            .state
-            .turn(alloc, &self.deck.variables, lined, disk, out)
-        {
+        match self.turn(alloc, disk, out) {
             Ok(turned) => self.ask_or_go(turned, alloc, disk, out),
             Err(lost) => Err(lost),
         }

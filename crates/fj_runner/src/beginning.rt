@@ -12,7 +12,7 @@ ghost use Rattle.fj_desk.specs.Desking.{told_core};
 ghost use Rattle.fj_turns.specs.Few.{most_jobs};
 ghost use Rattle.fj_turns.specs.Run.{Stage as PlainStage, Start, Waiting};
 ghost use Rattle.fj_turns.specs.Passing.{output_of};
-ghost use Rattle.fj_turns.specs.Turns.{settles, doing_told, turn_tell, turn_wait, turn_start};
+ghost use Rattle.fj_turns.specs.Turns.{settles, doing_told, turn_tell, turn_wait, turn_begun};
 ghost use Rattle.fj_pending.specs.Asks.{IsUnitAsked};
 ghost use Rattle.fj_pending.specs.Plain.{held, entries, tells_of};
 ghost use Rattle.fj_pending.specs.Taking.{LeavesSome};
@@ -42,10 +42,9 @@ use crate::state::State;
 use crate::turned::Turned;
 use fj_acts::Core;
 use fj_items::Lost;
-use fj_modes::Subject;
 use fj_outside::{Disk, FileStore, Sink};
 use fj_pending::{Whose, check, is_idle, waits_for};
-use fj_statement::{Lined, Statement, Variables};
+use fj_statement::{Lined, Statement, Subject, Variables};
 use fj_units::Units;
 use fj_value::Condition;
 use fj_world::Ask;
@@ -262,7 +261,7 @@ impl<F: FileStore> State<F> {
         requires room { HasRoom self.old.sent.items }
         ensures turn { D.tells disk.old → (more : List Stated) (stage : PlainStage)
             → IfOk result (λ t. IsTurn F.told F.bytes variables.now ((lined.now, control_by lined.now.what) ∷ more) (files_of (D.held disk.new)) self.new t
-            (turn_start (lined.now, control_by lined.now.what)
+            (turn_begun (lined.now, control_by lined.now.what)
             (run_in variables.now ((lined.now, control_by lined.now.what) ∷ more) (files_of (D.held disk.old)) self.old stage))) }
         ensures steps { Steps W.tells W.taken W.count D.tells D.held D.count D.refusals out.old disk.old self.old.core result out.new disk.new self.new.core }
         ensures files { HaveFiles self.old.core.names self.old.core.units → IfOk result (λ t. HaveTurned t self.new lined.now.what) }

@@ -33,7 +33,7 @@ impl<F: FileStore> Machine<F> {
         ensures ending { result.ending ≡ self.state.ending }
         ensures over { result.over ≡ self.tally.over }
         ensures lost { result.lost ≡ self.tally.lost }
-        ensures at { result.at ≡ self.at }
+        ensures at { result.at ≡ self.at.place }
         ensures kept { result.kept ≡ self.kept }
     {
         let Machine {
@@ -50,7 +50,7 @@ impl<F: FileStore> Machine<F> {
             ending,
             over: tally.over,
             lost: tally.lost,
-            at,
+            at: at.place,
             kept,
         }
     }

@@ -7,6 +7,7 @@ mod beginning;
 mod ending;
 mod halted;
 mod hand;
+mod handing;
 mod left;
 mod machine;
 mod making;

@@ -9,16 +9,23 @@ use fj_connect::Connection;
 use fj_outside::FileStore;
 use fj_statement::Deck;
 
-/// A deck that is carried out: what it came to, and the place of the statement at hand.
+/// The statement at hand: its place in the deck, and the number of its unit once it has begun.
+#[derive(Clone, Copy)]
+pub struct AtHand {
+    pub(crate) place: usize,
+    pub(crate) number: Option<u32>,
+}
+
+/// A deck that is carried out: what it came to, and the statement at hand.
 #[derive(Drop)]
 pub struct Machine<F: FileStore> {
     pub(crate) deck: Deck,
     pub(crate) state: State<F>,
-    pub(crate) at: usize,
+    pub(crate) at: AtHand,
     pub(crate) tally: Tally,
     /// A connection whose job was refused. It is over then, so no second one comes.
     pub(crate) kept: Option<Connection<F>>,
     ghost kinds: { state.core.store.kinds ≡ kinds_of deck.variables },
-    ghost hand: { hand_may_be_at deck.statements at state.stage ≡ true },
+    ghost hand: { hand_may_be_at deck.statements at.place state.stage ≡ true },
     ghost refused: { IsSome kept → tally.over ≡ true },
 }

@@ -13,7 +13,7 @@ ghost use Rattle.fj_statement.specs.Sound.{IsSound};
 ghost use Rattle.fj_runner.specs.Going.{IsGoing};
 
 use crate::hand::Hand;
-use crate::machine::Machine;
+use crate::machine::{AtHand, Machine};
 use crate::stage::Stage;
 use crate::state::State;
 use crate::tally::Tally;
@@ -21,7 +21,7 @@ use fj_acts::Core;
 use fj_items::Output;
 use fj_outside::FileStore;
 use fj_pending::Pendings;
-use fj_statement::{Deck, Variable};
+use fj_statement::{Deck, FIRST_NEW_UNIT, Variable};
 use fj_store::Store;
 use fj_units::{Names, Units};
 use fj_value::{Items, Kind};
@@ -61,6 +61,7 @@ fn first_core(alloc: Global, variables: &[Variable]) -> Result<Core, AllocError>
         units: Units::new(alloc),
         output: Output::new(alloc),
         next: 1,
+        new_unit: FIRST_NEW_UNIT,
         tells: Items::new(alloc),
         names: Names::new(alloc),
     })
@@ -111,7 +112,10 @@ impl<F: FileStore> Machine<F> {
                 due: 0,
                 ending: None,
             },
-            at: 0,
+            at: AtHand {
+                place: 0,
+                number: None,
+            },
             tally,
             kept: None,
         })

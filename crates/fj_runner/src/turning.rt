@@ -5,7 +5,7 @@ ghost use Rattle.fj_statement.specs.Sound.{IsSoundStatement};
 ghost use Rattle.fj_items.specs.Kinds.{kinds_of};
 ghost use Rattle.fj_plain.specs.Statement.{Stated, control_by};
 ghost use Rattle.fj_turns.specs.Run.{Stage as PlainStage};
-ghost use Rattle.fj_turns.specs.Turns as turns;
+ghost use Rattle.fj_turns.specs.Turns.{turn_on};
 ghost use Rattle.fj_units.specs.Names.{AreInUse};
 ghost use Rattle.fj_acts.specs.Fitting.{IsKept};
 ghost use Rattle.fj_acts.specs.State.{core_of};
@@ -47,10 +47,10 @@ impl<F: FileStore> State<F> {
         ensures turn { D.tells disk.old → (more : List Stated) (stage : PlainStage)
             → stage_of F.told F.bytes variables.now ((lined.now, control_by lined.now.what) ∷ more) (core_of (files_of (D.held disk.old)) self.old.core) self.old.stage ≡ Some stage
             → IfOk result (λ t. IsTurn F.told F.bytes variables.now ((lined.now, control_by lined.now.what) ∷ more) (files_of (D.held disk.new)) self.new t
-            (turns.turn (lined.now, control_by lined.now.what) stage
+            (turn_on (lined.now, control_by lined.now.what) stage
             (run_in variables.now ((lined.now, control_by lined.now.what) ∷ more) (files_of (D.held disk.old)) self.old stage))) }
         ensures steps { Steps W.tells W.taken W.count D.tells D.held D.count D.refusals out.old disk.old self.old.core result out.new disk.new self.new.core }
-        ensures fits { IsSoundStatement variables.now lined.now.what → HaveAt self.old.stage self.old.core.names self.old.core.units lined.now.what → self.old.core.next + 1 < 2 ^ 32
+        ensures fits { IsSoundStatement variables.now lined.now.what → HaveAt self.old.stage self.old.core.names self.old.core.units lined.now.what → (self.old.stage ≢ Stage.Start → self.old.core.next + 1 < 2 ^ 32)
             → IsKept self.old.core → result ≢ Err Lost.Unfit }
         ensures holds { IsKept self.old.core → OnOk result (IsKept self.new.core) }
         ensures files { HaveAt self.old.stage self.old.core.names self.old.core.units lined.now.what → IfOk result (λ t. HaveTurned t self.new lined.now.what) }

@@ -43,7 +43,7 @@ use crate::ending::{ended_by, iostat_of};
 use crate::stage::{Stage, put_stage, put_start};
 use crate::state::State;
 use crate::turned::Turned;
-use fj_acts::{Doing, begin};
+use fj_acts::{Doing, begin, define_unit};
 use fj_bay::Job;
 use fj_items::{Lost, set_number};
 use fj_outside::{Disk, FileStore, Sink};
@@ -110,6 +110,7 @@ impl<F: FileStore> State<F> {
         ensures heard { self.new.told ≡ self.old.told }
     {
         put_start(&mut self.stage);
+        define_unit(variables, &lined.what, condition, &mut self.core);
         let iostat = iostat_of(&lined.what);
         let code = i64::from(condition.code());
         set_number(variables, &mut self.core.store, iostat, code);

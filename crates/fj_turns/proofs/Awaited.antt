@@ -18,7 +18,7 @@ use Rattle.fj_desk.specs.Core.{Core, Pending}
 use Rattle.fj_desk.specs.Desks.{Desk, Outcome, brought_by, log_at, log_length}
 use Rattle.fj_desk.specs.Doing.{Doing, finishes, gives, awaits, Desked}
 use Rattle.fj_turns.specs.Run.{Held, Run, Stage, Start, Waiting, Acting, Awaiting}
-use Rattle.fj_turns.specs.Turns.{Turn, Pauses, Passes, Stops, unsettled, bump, waited_now, finish_by, with_core, with_iostat, turn_act, with_tells, doing_told, wait_by, start_by, rule_of, turn_start, turn, Asked, goes, by_turn, asked_on, asked}
+use Rattle.fj_turns.specs.Turns.{Turn, Pauses, Passes, Stops, unsettled, bump, waited_now, finish_by, with_core, with_iostat, turn_act, with_tells, doing_told, wait_by, start_by, rule_of, begun_for, with_hand, turn_start, turn, Asked, goes, by_turn, asked_on, asked}
 use Rattle.fj_turns.specs.Inside.{does, walked}
 use Rattle.fj_turns.specs.Awaiting.{TellsJob, IsAwaited}
 use Rattle.fj_desk.proofs.Apart.{Each}
@@ -72,7 +72,7 @@ start_told st (Some rule) r = refl
 start_told st None r = wait_told st (waited_now st r) (unsettled (waited_now st r) r.book) r
 
 pub turn_told : (st : Stated) (stage : Stage) (r : Run) → TurnTold r.told (turn st stage r)
-turn_told st Start r = start_told st (rule_of r.variables st r.core) r
+turn_told st Start r = start_told (begun_for r st) (rule_of r.variables (begun_for r st) r.core) (with_hand (begun_for r st) r)
 turn_told st Waiting r = wait_told st (waited_now st r) (unsettled (waited_now st r) r.book) r
 turn_told st (Acting d) r = act_told st d r
 turn_told st (Awaiting slot number next) r = (refl, refl)

@@ -1,5 +1,5 @@
 -- The runner before each of its asks, served alone.
-use Rattle.std.proofs.Common.{◌≡◌, ◌⊎◌, ℕ, zero, suc, ◌+◌, true, false, List, [], ◌∷◌, map, set, get_or, slice_get, drop, Option, Some, None, is_some, refl, sym, ap, ◌∙◌, subst, inl, inr, arith}
+use Rattle.std.proofs.Common.{◌≡◌, ◌⊎◌, ℕ, zero, suc, ◌+◌, true, false, List, [], ◌∷◌, map, set, get_or, slice_get, length, drop, Option, Some, None, is_some, refl, sym, ap, ◌∙◌, subst, inl, inr, arith}
 use Rattle.fj_statement.specs.declared.deck.Variable.{Variable}
 use Rattle.fj_slot.specs.Serving.{Meaning}
 use Rattle.fj_slot.specs.Sound.{outcome}
@@ -15,7 +15,8 @@ use Rattle.fj_plain.specs.State.{Files}
 use Rattle.fj_plain.specs.Statement.{Stated}
 use Rattle.fj_desk.specs.Desks.{Outcome}
 use Rattle.fj_desk.specs.Doing.{Desked}
-use Rattle.fj_desk.specs.Desking.{fresh}
+use Rattle.fj_desk.specs.Desking.{begun_at, fresh}
+use Rattle.fj_plain.proofs.Begun.{begins_twice}
 use Rattle.fj_turns.specs.Run.{Run}
 use Rattle.fj_turns.specs.Turns.{asked, told_of}
 use Rattle.fj_turns.specs.Serving.{over_bays, Shows, run_conduct, desks_of, first_run, fresh_slots, begins}
@@ -26,7 +27,7 @@ use Rattle.fj_turns.proofs.Awaited.{IsDueAt, asked_told}
 use Rattle.fj_turns.proofs.Slots.{get_mapped, map_get, map_set}
 use Rattle.fj_turns.proofs.Ties.{more, given}
 use Rattle.fj_turns.proofs.Decks.{first_ties}
-use Rattle.fj_turns.proofs.Passed.{passes_none, At, Over, passes_stand, tells_at, output_at, stands_at, AtAsk, Led, asked_leads}
+use Rattle.fj_turns.proofs.Passed.{passes_none, At, Over, long_at, passes_stand, tells_at, output_at, stands_at, AtAsk, Led, asked_leads}
 
 module _ {S G J A P T R : Type 0} (mean : Meaning G J A P T R) (c : Conduct S T R) where
   -- one entry more
@@ -50,7 +51,7 @@ module _ {E J A S : Type 0} (m : Meaning E J A Bay Job Answer) (s : Shows S) (va
     statement = y.stands.statement;
     before = y.stands.before;
     reached = y.stands.reached;
-    rest = y.stands.place;
+    rest = long_at m variables deck first run qs y.stands;
     output = output_at m variables deck first run qs y.stands;
     due = sym y.leaves ∙ output_at m variables deck first run qs y.stands;
     tells = tells_at m variables deck first run qs y.stands;
@@ -107,7 +108,7 @@ module _ {E J A S : Type 0} (m : Meaning E J A Bay Job Answer) (s : Shows S) (va
       → ((ask ≡ Finished) × (run.ending ≡ None)) ⊎ HasAwaited variables deck files run
   awaited_led files same ask run qs led = by ask led
     where
-      there : (index : ℕ) (statement : Stated) (before : Desked) → cut_desks variables index deck first ≡ Some (statement, before) → run.rest ≡ drop index deck → AwaitedAreTold variables deck first index run.told
+      there : (index : ℕ) (statement : Stated) (before : Desked) → cut_desks variables index deck first ≡ Some (statement, before) → length run.rest ≡ length (drop index deck) → AwaitedAreTold variables deck first index run.told
           → HasAwaited variables deck files run
       there index statement before reached rest told = record {
         index = index;
@@ -119,8 +120,8 @@ module _ {E J A S : Type 0} (m : Meaning E J A Bay Job Answer) (s : Shows S) (va
       }
 
       by : (a : Ask Job) → Led m variables deck first a run qs → ((a ≡ Finished) × (run.ending ≡ None)) ⊎ HasAwaited variables deck files run
-      by (Submit slot job) (q, at, y) = inr (there y.stands.index y.stands.statement y.stands.before y.stands.reached y.stands.place y.before_it)
-      by (Settle slot) (q, at, o, out, y) = inr (there y.stands.index y.stands.statement y.stands.before y.stands.reached y.stands.place y.before_it)
+      by (Submit slot job) (q, at, y) = inr (there y.stands.index y.stands.statement y.stands.before y.stands.reached (long_at m variables deck first run (set qs slot (given q job)) y.stands) y.before_it)
+      by (Settle slot) (q, at, o, out, y) = inr (there y.stands.index y.stands.statement y.stands.before y.stands.reached (long_at m variables deck first (told_of run o) (set qs slot (more q)) y.stands) y.before_it)
       by Finished (inl (left, none)) = inl (refl, none)
       by Finished (inr x) = inr (there x.index x.statement x.before x.reached x.place x.earlier)
 
@@ -191,11 +192,14 @@ module _ {E J A S : Type 0} (m : Meaning E J A Bay Job Answer) (s : Shows S) whe
     refl,
     record {
       index = 0;
-      statement = st;
+      statement = begun_at (fresh variables files) st;
       behind = more;
       before = fresh variables files;
       reached = refl;
+      at_hand = st;
       here = refl;
+      hand = refl;
+      fixed = begins_twice (fresh variables files).core.vars (fresh variables files).core.new_unit st;
       place = refl;
       variables_are = refl;
       going = refl;

@@ -9,7 +9,7 @@ use Rattle.fj_plain.specs.State.{Files}
 use Rattle.fj_plain.specs.Statement.{Stated}
 use Rattle.fj_desk.specs.Desks.{Outcome}
 use Rattle.fj_turns.specs.Run.{Start, Run}
-use Rattle.fj_turns.specs.Turns.{Turn, Pauses, Passes, Stops, Asked, turn_start, turn, goes, by_turn, asked_on, asked, told_of}
+use Rattle.fj_turns.specs.Turns.{Turn, Pauses, Passes, Stops, Asked, begun_for, hand_at, turn_start, turn, goes, by_turn, asked_on, asked, told_of}
 use Rattle.fj_turns.specs.Serving.{first_run}
 use Rattle.fj_turns.specs.Few.{most_jobs}
 use Rattle.fj_turns.specs.Bounds.{served_by, answered, most_asks, KeepsToSlots, AsksKeepToSlots, AsksEnd}
@@ -37,14 +37,14 @@ goes_left (st ∷ rest) n run t e =
     let r : Run = record run { rest = st ∷ rest } in
     let sound : Sound r = record { seated = t.seated; sent = t.sent; told = t.told; within = t.within; same = t.same; open_ones = t.open_ones; ending = t.ending } in
     subst (λ a. IsLeft n a.ask a.run) (sym (goes_is_turn st rest run))
-    (turned_left st rest n (turn_start st r) (turn_steady st rest most_jobs n r sound refl e Start (omega (arith))) (λ run' t' e'. goes_left rest n run' t' e'))
+    (turned_left (begun_for r st) rest n (turn_start st r) (turn_steady st rest most_jobs n r sound refl e Start (omega (arith))) (λ run' t' e'. goes_left rest n run' t' e'))
 
 asked_left : (st : Stated) (rest : List Stated) (n : ℕ) (r : Run) → Steady st rest n r → IsLeft n (asked r).ask (asked r).run
 asked_left st rest n r s =
     let is : asked r ≡ by_turn rest (turn st r.stage r) =
     ap (λ e. if is_some e then record { ask = Finished; run = r } else asked_on r.rest r) s.sound.ending ∙ ap (λ l. asked_on l r) s.rest_is in
     subst (λ a. IsLeft n a.ask a.run) (sym is)
-    (turned_left st rest n (turn st r.stage r) (turn_steady st rest s.jobs n r s.sound s.rest_is s.enough r.stage s.stage) (λ run t e. goes_left rest n run t e))
+    (turned_left (hand_at st r.stage r) rest n (turn st r.stage r) (turn_steady st rest s.jobs n r s.sound s.rest_is s.enough r.stage s.stage) (λ run t e. goes_left rest n run t e))
 
 served_left : (n : ℕ) (ask : Ask Job) (run : Run) (o : Outcome) → IsLeft n ask run → IsLeft (n - 1) (served_by ask run o).ask (served_by ask run o).run
 served_left n (Submit slot job) run o (st, rest, h) =
@@ -73,7 +73,7 @@ first_left variables (st ∷ more) files =
     let none : left_over r.sent r.told ≡ 0 = refl in
     let all : weight (st ∷ more) ≡ most_jobs * length (st ∷ more) = weight_is (st ∷ more) in
     let sound : Sound r = record { seated = record { inside = tt; slots = tt; numbers = tt }; sent = refl; told = refl; within = λ slot. omega (arith); same = refl; open_ones = tt; ending = refl } in
-    turned_left st more (most_asks (st ∷ more)) (turn_start st r) (turn_steady st more most_jobs (most_asks (st ∷ more)) r sound refl (omega (arith, none, all)) Start (omega (arith)))
+    turned_left (begun_for r st) more (most_asks (st ∷ more)) (turn_start st r) (turn_steady st more most_jobs (most_asks (st ∷ more)) r sound refl (omega (arith, none, all)) Start (omega (arith)))
     (λ run t e. goes_left more (most_asks (st ∷ more)) run t e)
 
 keeps_left : (n : ℕ) (ask : Ask Job) (run : Run) → IsLeft n ask run → KeepsToSlots ask run

@@ -1,5 +1,5 @@
 -- What each kind of statement does keeps to slots, and leaves pending transfers alone, but for one that it starts.
-use Rattle.std.proofs.Common.{◌≡◌, ◌⊎◌, ℕ, ℤ, ◌+◌, ◌<◌, Bool, true, false, not, List, [], ◌∷◌, ◌++◌, Option, Some, None, refl, sym, ap, ◌∙◌, subst, inl, inr, ◌&&◌, arith}
+use Rattle.std.proofs.Common.{◌≡◌, ◌⊎◌, ℕ, ℤ, ◌<◌, Bool, true, false, not, List, [], ◌∷◌, ◌++◌, Option, Some, None, refl, sym, ap, ◌∙◌, subst, inl, inr, ◌&&◌, arith}
 use Rattle.std.specs.Prelude.{nat_lt, if◌then◌else◌, filter, ◌==◌, unwrap_or}
 use Rattle.std.specs.List.{list_any}
 use Rattle.std.proofs.lemmas.Bool.{cases_Bool}
@@ -8,9 +8,9 @@ use Rattle.fj_value.specs.declared.condition.Condition.TheVariants.{Fine}
 use Rattle.fj_modes.specs.declared.modes.Modes.{Modes}
 use Rattle.fj_modes.specs.declared.specifiers.OpenSpec.{OpenSpec}
 use Rattle.fj_modes.specs.declared.asked.Wanted.{Wanted}
-use Rattle.fj_modes.specs.declared.unit.Motion.{Motion}
-use Rattle.fj_modes.specs.declared.unit.UnitRef.{UnitRef}
-use Rattle.fj_modes.specs.declared.unit.UnitRef.TheVariants as unit
+use Rattle.fj_modes.specs.declared.motion.Motion.{Motion}
+use Rattle.fj_statement.specs.declared.unit.UnitRef.{UnitRef}
+use Rattle.fj_statement.specs.declared.unit.UnitRef.TheVariants as unit
 use Rattle.fj_list.specs.declared.moved.Moved.{Moved}
 use Rattle.fj_control.specs.Steps.{Given}
 use Rattle.fj_statement.specs.declared.deck.Variable.{Variable}
@@ -25,7 +25,7 @@ use Rattle.fj_plain.specs.Statement.{file_asked}
 use Rattle.fj_desk.specs.Core.{Core, Pending, Connected, connected_at, unit_named, with_connected, inserted, without_connected}
 use Rattle.fj_desk.specs.Desks.{Outcome, most_slots, cells_in, count_in, condition_in}
 use Rattle.fj_desk.specs.Doing.{Doing, finishes, gives, awaits}
-use Rattle.fj_desk.specs.Acting.{pending_of, finishes_behind, transferred, transfer_at, keeps, disconnected, came_out, detaches, closes, closes_anyway, all_closed, connects, opens, moves, asks_connection, inquires, if_numbered, unit_at, own, doing}
+use Rattle.fj_desk.specs.Acting.{pending_of, finishes_behind, transferred, transfer_at, keeps, disconnected, came_out, detaches, closes, closes_anyway, all_closed, connects, opens_unit, moves, asks_connection, inquires, if_numbered, unit_at, own, doing}
 use Rattle.fj_desk.proofs.Apart.{Each, each_filter, each_append}
 use Rattle.fj_desk.proofs.Walking.{either, unit_by, closes_by, anyway_by, connects_by, open_by, doing_by}
 use Rattle.fj_turns.specs.Turns.{ends_halts}
@@ -98,6 +98,10 @@ transfer_keeps : (control : ℕ → List Given) (variables : List Variable) (lin
 transfer_keeps control variables line core t moved unit.Star h = (refl, refl, h)
 transfer_keeps control variables line core t moved (unit.Number n) h =
     unit_by (Keeps core) control variables line core t moved (connected_at core.units n) (λ condition. (refl, refl, h)) (λ u e. transferred_keeps control variables line core t moved u h (found_housed core.units n u h e))
+transfer_keeps control variables line core t moved (unit.Held place n) h =
+    unit_by (Keeps core) control variables line core t moved (connected_at core.units n) (λ condition. (refl, refl, h)) (λ u e. transferred_keeps control variables line core t moved u h (found_housed core.units n u h e))
+transfer_keeps control variables line core t moved (unit.New place n) h =
+    unit_by (Keeps core) control variables line core t moved (connected_at core.units n) (λ condition. (refl, refl, h)) (λ u e. transferred_keeps control variables line core t moved u h (found_housed core.units n u h e))
 
 -- ---- CLOSE
 
@@ -127,9 +131,9 @@ connects_keeps from core number spec modes k =
     (λ slot c free e. let inside : slot < most_slots = omega (arith, free.inside) in
     (inside, k, (λ o. (k.0, k.1, inserted_housed (record { number = number; slot = slot; name = c.name; modes = c.modes }) core.units inside k.2))))
 
-open_keeps : (core : Core) (spec : OpenSpec) (number : Option ℕ) → Housed core.units → Keeps core (if_numbered core number (λ n. opens core n spec (connected_at core.units n)))
-open_keeps core spec number h =
-    open_by (Keeps core) core spec number (λ condition. (refl, refl, h))
+open_keeps : (core : Core) (ref : UnitRef) (spec : OpenSpec) (number : Option ℕ) → Housed core.units → Keeps core (if_numbered core number (λ n. opens_unit core ref n spec (connected_at core.units n)))
+open_keeps core ref spec number h =
+    open_by (Keeps core) core ref spec number (λ condition. (refl, refl, h))
     (λ n u modes is e. let s = found_housed core.units n u h e in (s, (refl, refl, h), (λ o. (refl, refl, with_housed (record u { modes = modes }) core.units s h))))
     (λ n modes is e. connects_keeps core core n spec modes (refl, refl, h))
     (λ n u modes is e other. detaches_keeps core core u (keeps u) (connects n spec modes) (found_housed core.units n u h e) (refl, refl, h) (λ new k. connects_keeps core new n spec modes k))
@@ -150,7 +154,7 @@ inquires_keeps variables core number file asked id (Some u) h s =
 
 own_keeps : (control : ℕ → List Given) (variables : List Variable) (line : ℕ) (core : Core) (st : Statement) → Housed core.units → Keeps core (own control variables line core st)
 own_keeps control variables line core (statement.Assign to from) h = (refl, refl, h)
-own_keeps control variables line core (statement.OpenUnit u spec iostat) h = open_keeps core spec (number_of u) h
+own_keeps control variables line core (statement.OpenUnit u spec iostat) h = open_keeps core u spec (number_of u) h
 own_keeps control variables line core (statement.CloseUnit u keep iostat) h = closes_keeps core keep (number_of u) h
 own_keeps control variables line core (statement.WaitFor u id iostat) h = (refl, refl, h)
 own_keeps control variables line core (statement.Move how u iostat) h = moves_keeps core how (unit_at core (number_of u)) h (λ v e. unit_housed core (number_of u) v h e)

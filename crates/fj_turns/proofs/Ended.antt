@@ -10,7 +10,7 @@ use Rattle.fj_world.specs.Plain.{Plain, after}
 use Rattle.fj_bay.specs.Bay.{Bay}
 use Rattle.fj_bay.specs.Jobs.{Job, Answer}
 use Rattle.fj_plain.specs.State.{State, Files, start}
-use Rattle.fj_plain.specs.Statement.{Stated, Ending, Ran, step, executed, cut}
+use Rattle.fj_plain.specs.Statement.{Stated, Ending, Ran, begun_in, step, executed, cut}
 use Rattle.fj_desk.specs.Desking.{fresh}
 use Rattle.fj_turns.specs.Run.{Run}
 use Rattle.fj_turns.specs.Serving.{over_bays, Shows, run_conduct, first_run, fresh_slots, begins}
@@ -26,27 +26,28 @@ ends_executed : (variables : List Variable) (index : ℕ) (deck : List Stated) (
     → executed variables deck s ≡ record { state = (step variables st at).0; ending = (step variables st at).1 }
 ends_executed variables index [] s st at e some = cc
 ends_executed variables zero (x ∷ deck) s st at e some =
-    ap (λ z. executed variables (z.0 ∷ deck) z.1) same ∙ here (step variables st at).1 refl some
+    ap (λ (z : Stated × State). elim (step variables z.0 z.1).1 as (λ _. Ran) [ None ↦ executed variables deck (step variables z.0 z.1).0 | Some y ↦ record { state = (step variables z.0 z.1).0; ending = Some y } ]) same
+    ∙ here (step variables st at).1 refl some
   where
-    same : ◌≡◌ {A = Stated × State} (x, s) (st, at)
+    same : ◌≡◌ {A = Stated × State} (begun_in s x, s) (st, at)
     same = same_some e
 
-    here : (o : Option Ending) → (step variables st at).1 ≡ o → IsSome o → executed variables (st ∷ deck) at ≡ record { state = (step variables st at).0; ending = (step variables st at).1 }
+    here : (o : Option Ending) → (step variables st at).1 ≡ o → IsSome o → (elim (step variables st at).1 as (λ _. Ran) [ None ↦ executed variables deck (step variables st at).0 | Some y ↦ record { state = (step variables st at).0; ending = Some y } ]) ≡ record { state = (step variables st at).0; ending = (step variables st at).1 }
     here None f none = cc
     here (Some ending) f none =
         ap (λ o. elim o as (λ _. Ran) [ None ↦ executed variables deck (step variables st at).0 | Some y ↦ record { state = (step variables st at).0; ending = Some y } ]) f
         ∙ ap (λ o. record { state = (step variables st at).0; ending = o }) (sym f)
 ends_executed variables (suc index) (x ∷ deck) s st at e some =
-    by (step variables x s).1 refl (λ f. ends_executed variables index deck (step variables x s).0 st at f some)
+    by (step variables (begun_in s x) s).1 refl (λ f. ends_executed variables index deck (step variables (begun_in s x) s).0 st at f some)
   where
-    by : (o : Option Ending) → (step variables x s).1 ≡ o
-        → (cut variables index deck (step variables x s).0 ≡ Some (st, at) → executed variables deck (step variables x s).0 ≡ record { state = (step variables st at).0; ending = (step variables st at).1 })
+    by : (o : Option Ending) → (step variables (begun_in s x) s).1 ≡ o
+        → (cut variables index deck (step variables (begun_in s x) s).0 ≡ Some (st, at) → executed variables deck (step variables (begun_in s x) s).0 ≡ record { state = (step variables st at).0; ending = (step variables st at).1 })
         → executed variables (x ∷ deck) s ≡ record { state = (step variables st at).0; ending = (step variables st at).1 }
     by None f later =
-        ap (λ o. elim o as (λ _. Ran) [ None ↦ executed variables deck (step variables x s).0 | Some y ↦ record { state = (step variables x s).0; ending = Some y } ]) f
-        ∙ later (sym (ap (λ o. elim o as (λ _. Option (Stated × State)) [ None ↦ cut variables index deck (step variables x s).0 | Some y ↦ None ]) f) ∙ e)
+        ap (λ o. elim o as (λ _. Ran) [ None ↦ executed variables deck (step variables (begun_in s x) s).0 | Some y ↦ record { state = (step variables (begun_in s x) s).0; ending = Some y } ]) f
+        ∙ later (sym (ap (λ o. elim o as (λ _. Option (Stated × State)) [ None ↦ cut variables index deck (step variables (begun_in s x) s).0 | Some y ↦ None ]) f) ∙ e)
     by (Some ending) f later =
-        absurd (let z : None ≡ Some (st, at) = sym (ap (λ o. elim o as (λ _. Option (Stated × State)) [ None ↦ cut variables index deck (step variables x s).0 | Some y ↦ None ]) f) ∙ e in cc)
+        absurd (let z : None ≡ Some (st, at) = sym (ap (λ o. elim o as (λ _. Option (Stated × State)) [ None ↦ cut variables index deck (step variables (begun_in s x) s).0 | Some y ↦ None ]) f) ∙ e in cc)
 
 module _ {E J A S : Type 0} (m : Meaning E J A Bay Job Answer) (s : Shows S) where
   abbrev c : Conduct S Job Answer

@@ -8,9 +8,9 @@ use Rattle.fj_value.specs.declared.condition.Rule.{Rule}
 use Rattle.fj_modes.specs.declared.modes.Modes.{Modes}
 use Rattle.fj_modes.specs.declared.specifiers.OpenSpec.{OpenSpec}
 use Rattle.fj_modes.specs.declared.asked.Wanted.{Wanted}
-use Rattle.fj_modes.specs.declared.unit.Motion.{Motion}
-use Rattle.fj_modes.specs.declared.unit.UnitRef.{UnitRef}
-use Rattle.fj_modes.specs.declared.unit.UnitRef.TheVariants as unit
+use Rattle.fj_modes.specs.declared.motion.Motion.{Motion}
+use Rattle.fj_statement.specs.declared.unit.UnitRef.{UnitRef}
+use Rattle.fj_statement.specs.declared.unit.UnitRef.TheVariants as unit
 use Rattle.fj_list.specs.declared.moved.Moved.{Moved}
 use Rattle.fj_control.specs.Steps.{Given}
 use Rattle.fj_statement.specs.declared.deck.Variable.{Variable}
@@ -27,8 +27,8 @@ use Rattle.fj_desk.specs.Core.{Core, Connected, connected_at, unit_named}
 use Rattle.fj_desk.specs.Desks.{Desk, Outcome, most_slots, carry, log_length}
 use Rattle.fj_desk.specs.Desks as desks
 use Rattle.fj_desk.specs.Doing.{Doing, finishes, gives, awaits, Desked, acted}
-use Rattle.fj_desk.specs.Acting.{finishes_behind, transferred, transfer_at, keeps, came_out, detaches, closes, closes_anyway, all_closed, connects, opens, moves, asks_connection, inquires, if_numbered, unit_at, own, doing}
-use Rattle.fj_desk.specs.Desking.{told_core, desk_step, goes_on, completed, fresh}
+use Rattle.fj_desk.specs.Acting.{finishes_behind, transferred, transfer_at, keeps, came_out, detaches, closes, closes_anyway, all_closed, connects, opens_unit, moves, asks_connection, inquires, if_numbered, unit_at, own, doing}
+use Rattle.fj_desk.specs.Desking.{begun_at, told_core, desk_step, goes_on, completed, fresh}
 use Rattle.fj_desk.proofs.Walking.{either, unit_by, closes_by, anyway_by, connects_by, open_by, doing_by}
 use Rattle.fj_turns.specs.Turns.{halted_slots, ends_halts, doing_told, rule_of}
 use Rattle.fj_turns.specs.Inside.{waited_at, does, cut_desks}
@@ -58,6 +58,10 @@ transfer_fair : (k : ℕ) (control : ℕ → List Given) (variables : List Varia
 transfer_fair k control variables line core t moved unit.Star h = h
 transfer_fair k control variables line core t moved (unit.Number n) h =
     unit_by (Fair (suc (suc k))) control variables line core t moved (connected_at core.units n) (λ condition. h) (λ u e. transferred_fair k control variables line core t moved u h)
+transfer_fair k control variables line core t moved (unit.Held place n) h =
+    unit_by (Fair (suc (suc k))) control variables line core t moved (connected_at core.units n) (λ condition. h) (λ u e. transferred_fair k control variables line core t moved u h)
+transfer_fair k control variables line core t moved (unit.New place n) h =
+    unit_by (Fair (suc (suc k))) control variables line core t moved (connected_at core.units n) (λ condition. h) (λ u e. transferred_fair k control variables line core t moved u h)
 
 -- ---- CLOSE
 
@@ -83,9 +87,9 @@ connects_fair k core number spec modes h =
     connects_by (Fair (suc k)) core number spec modes (λ condition. h)
     (λ slot c free e. (h, (λ o. inserted_seated (record { number = number; slot = slot; name = c.name; modes = c.modes }) core.units h (let inside : slot < most_slots = omega (arith, free.inside) in inside) free.differs)))
 
-open_fair : (k : ℕ) (core : Core) (spec : OpenSpec) (number : Option ℕ) → Seated core.units → Fair (suc (suc k)) (if_numbered core number (λ n. opens core n spec (connected_at core.units n)))
-open_fair k core spec number h =
-    open_by (Fair (suc (suc k))) core spec number (λ condition. h) (λ n u modes is e. (h, (λ o. with_seated (record u { modes = modes }) u n core.units h e (found_number core.units n u e) refl)))
+open_fair : (k : ℕ) (core : Core) (ref : UnitRef) (spec : OpenSpec) (number : Option ℕ) → Seated core.units → Fair (suc (suc k)) (if_numbered core number (λ n. opens_unit core ref n spec (connected_at core.units n)))
+open_fair k core ref spec number h =
+    open_by (Fair (suc (suc k))) core ref spec number (λ condition. h) (λ n u modes is e. (h, (λ o. with_seated (record u { modes = modes }) u n core.units h e (found_number core.units n u e) refl)))
     (λ n modes is e. connects_fair (suc k) core n spec modes h) (λ n u modes is e other. detaches_fair (suc k) core u (keeps u) (connects n spec modes) h (λ new s. connects_fair k new n spec modes s))
 
 -- ---- the motions, INQUIRE
@@ -102,7 +106,7 @@ inquires_fair k variables core number file asked id (Some u) h = either (Fair (s
 
 own_fair : (k : ℕ) (control : ℕ → List Given) (variables : List Variable) (line : ℕ) (core : Core) (st : Statement) → Seated core.units → length core.units ≤ suc (suc k) → Fair (suc (suc k)) (own control variables line core st)
 own_fair k control variables line core (statement.Assign to from) h l = h
-own_fair k control variables line core (statement.OpenUnit u spec iostat) h l = open_fair k core spec (number_of u) h
+own_fair k control variables line core (statement.OpenUnit u spec iostat) h l = open_fair k core u spec (number_of u) h
 own_fair k control variables line core (statement.CloseUnit u keep iostat) h l = closes_fair (suc k) core keep (unit_at core (number_of u)) h
 own_fair k control variables line core (statement.WaitFor u id iostat) h l = h
 own_fair k control variables line core (statement.Move how u iostat) h l = moves_fair (suc k) core how (unit_at core (number_of u)) h
@@ -172,11 +176,11 @@ cut_seated variables [] index p statement before h e = cc
 cut_seated variables (st ∷ more) zero p statement before h e =
     let here : p ≡ before = ap (λ (o : Option (Stated × Desked)). elim o as (λ _. Desked) [ None ↦ p | Some x ↦ x.1 ]) e in subst (λ q. Seated q.core.units) here h
 cut_seated variables (st ∷ more) (suc index) p statement before h e =
-    by (desk_step variables st p).1 refl (λ f. cut_seated variables more index (desk_step variables st p).0 statement before (step_seated variables st p h) f)
+    by (desk_step variables (begun_at p st) p).1 refl (λ f. cut_seated variables more index (desk_step variables (begun_at p st) p).0 statement before (step_seated variables (begun_at p st) p h) f)
   where
-    by : (o : Option Ending) → (desk_step variables st p).1 ≡ o → (cut_desks variables index more (desk_step variables st p).0 ≡ Some (statement, before) → Seated before.core.units) → Seated before.core.units
+    by : (o : Option Ending) → (desk_step variables (begun_at p st) p).1 ≡ o → (cut_desks variables index more (desk_step variables (begun_at p st) p).0 ≡ Some (statement, before) → Seated before.core.units) → Seated before.core.units
     by (Some x) f later =
-        absurd (let z : None ≡ Some (statement, before) = sym (ap (λ o. elim o as (λ _. Option (Stated × Desked)) [ None ↦ cut_desks variables index more (desk_step variables st p).0 | Some y ↦ None ]) f) ∙ e in cc)
+        absurd (let z : None ≡ Some (statement, before) = sym (ap (λ o. elim o as (λ _. Option (Stated × Desked)) [ None ↦ cut_desks variables index more (desk_step variables (begun_at p st) p).0 | Some y ↦ None ]) f) ∙ e in cc)
     by None f later = later (sym (cut_on variables index st more p f) ∙ e)
 
 pub gives_few_jobs : GivesFewJobs

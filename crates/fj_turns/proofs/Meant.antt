@@ -5,14 +5,14 @@ use Rattle.fj_slot.specs.Serving.{Meaning}
 use Rattle.fj_bay.specs.Bay.{Bay}
 use Rattle.fj_bay.specs.Jobs.{Job, Answer}
 use Rattle.fj_plain.specs.State.{State, Files, start}
-use Rattle.fj_plain.specs.Statement.{Stated, Ending, Ran, executed, step, cut}
+use Rattle.fj_plain.specs.Statement.{Stated, Ending, Ran, begun_in, executed, step, cut}
 use Rattle.fj_plain.specs.Telling.{waited_in}
 use Rattle.fj_plain.proofs.Sound.{Sound, sound_start}
 use Rattle.fj_plain.proofs.Reached.{sound_step}
 use Rattle.fj_desk.specs.Doing.{Desked}
-use Rattle.fj_desk.specs.Desking.{DesksRan, over_desks, desk_step, fresh}
+use Rattle.fj_desk.specs.Desking.{DesksRan, begun_at, over_desks, desk_step, fresh}
 use Rattle.fj_desk.specs.Forgetting.{Forgets}
-use Rattle.fj_desk.proofs.Forgetting.{start_tied, results_same}
+use Rattle.fj_desk.proofs.Forgetting.{begun_same, start_tied, results_same}
 use Rattle.fj_desk.proofs.SoundStates.{sound_caused, slots_forgotten}
 use Rattle.fj_desk.proofs.Steps.{step_tied}
 use Rattle.fj_desk.proofs.Tied.{Tied}
@@ -49,29 +49,30 @@ pub record CutTied (variables : List Variable) (deck : List Stated) (index : ℕ
   pub ending : (desk_step variables statement before).1 ≡ (step variables statement state).1
   pub behind : Tied (desk_step variables statement before).0 (step variables statement state).0
 
-cut_on : (variables : List Variable) (index : ℕ) (st : Stated) (more : List Stated) (s : State) → (step variables st s).1 ≡ None → cut variables (suc index) (st ∷ more) s ≡ cut variables index more (step variables st s).0
+cut_on : (variables : List Variable) (index : ℕ) (st : Stated) (more : List Stated) (s : State) → (step variables (begun_in s st) s).1 ≡ None → cut variables (suc index) (st ∷ more) s ≡ cut variables index more (step variables (begun_in s st) s).0
 cut_on variables index st more s e =
-    ap (λ o. elim o as (λ _. Option (Stated × State)) [ None ↦ cut variables index more (step variables st s).0 | Some x ↦ None ]) e
+    ap (λ o. elim o as (λ _. Option (Stated × State)) [ None ↦ cut variables index more (step variables (begun_in s st) s).0 | Some x ↦ None ]) e
 
 cut_tied : (variables : List Variable) (deck : List Stated) (index : ℕ) (p : Desked) (s : State) (statement : Stated) (before : Desked) → Tied p s → Sound s
     → cut_desks variables index deck p ≡ Some (statement, before) → CutTied variables deck index s statement before
 cut_tied variables [] index p s statement before t h e = cc
 cut_tied variables (st ∷ more) zero p s statement before t h e =
-    let same : st ≡ statement = ap (λ (o : Option (Stated × Desked)). elim o as (λ _. Stated) [ None ↦ st | Some x ↦ x.0 ]) e in
+    let same : begun_in s st ≡ statement = sym (begun_same p s st t) ∙ ap (λ (o : Option (Stated × Desked)). elim o as (λ _. Stated) [ None ↦ st | Some x ↦ x.0 ]) e in
     let here : p ≡ before = ap (λ (o : Option (Stated × Desked)). elim o as (λ _. Desked) [ None ↦ p | Some x ↦ x.1 ]) e in
     let tied = subst (λ q. Tied q s) here t in
     let done = step_tied variables statement before s tied (sound_caused s h) in
     record { state = s; cut_is = ap (λ x. Some (x, s)) same; tied = tied; ending = done.0; behind = done.1 }
 cut_tied variables (st ∷ more) (suc index) p s statement before t h e =
-    let done = step_tied variables st p s t (sound_caused s h) in
-    by (desk_step variables st p).1 refl (λ f. cut_tied variables more index (desk_step variables st p).0 (step variables st s).0 statement before done.1 (sound_step variables st s h) f) done.0
+    let done = subst (λ y. ((desk_step variables y p).1 ≡ (step variables (begun_in s st) s).1) × Tied (desk_step variables y p).0 (step variables (begun_in s st) s).0) (sym (begun_same p s st t))
+    (step_tied variables (begun_in s st) p s t (sound_caused s h)) in
+    by (desk_step variables (begun_at p st) p).1 refl (λ f. cut_tied variables more index (desk_step variables (begun_at p st) p).0 (step variables (begun_in s st) s).0 statement before done.1 (sound_step variables (begun_in s st) s h) f) done.0
   where
-    by : (o : Option Ending) → (desk_step variables st p).1 ≡ o → (cut_desks variables index more (desk_step variables st p).0 ≡ Some (statement, before) → CutTied variables more index (step variables st s).0 statement before)
-        → (desk_step variables st p).1 ≡ (step variables st s).1 → CutTied variables (st ∷ more) (suc index) s statement before
+    by : (o : Option Ending) → (desk_step variables (begun_at p st) p).1 ≡ o → (cut_desks variables index more (desk_step variables (begun_at p st) p).0 ≡ Some (statement, before) → CutTied variables more index (step variables (begun_in s st) s).0 statement before)
+        → (desk_step variables (begun_at p st) p).1 ≡ (step variables (begun_in s st) s).1 → CutTied variables (st ∷ more) (suc index) s statement before
     by (Some x) f later same =
-        absurd (let z : None ≡ Some (statement, before) = sym (ap (λ o. elim o as (λ _. Option (Stated × Desked)) [ None ↦ cut_desks variables index more (desk_step variables st p).0 | Some y ↦ None ]) f) ∙ e in cc)
+        absurd (let z : None ≡ Some (statement, before) = sym (ap (λ o. elim o as (λ _. Option (Stated × Desked)) [ None ↦ cut_desks variables index more (desk_step variables (begun_at p st) p).0 | Some y ↦ None ]) f) ∙ e in cc)
     by None f later same =
-        let tied = later (sym (ap (λ o. elim o as (λ _. Option (Stated × Desked)) [ None ↦ cut_desks variables index more (desk_step variables st p).0 | Some y ↦ None ]) f) ∙ e) in
+        let tied = later (sym (ap (λ o. elim o as (λ _. Option (Stated × Desked)) [ None ↦ cut_desks variables index more (desk_step variables (begun_at p st) p).0 | Some y ↦ None ]) f) ∙ e) in
         record { state = tied.state; cut_is = cut_on variables index st more s (sym same ∙ f) ∙ tied.cut_is; tied = tied.tied; ending = tied.ending; behind = tied.behind }
 
 -- the cut of a deck from its start

@@ -3,8 +3,8 @@ use Rattle.std.proofs.Common.{◌≡◌, ℕ, zero, suc, Bool, true, false, List
 use Rattle.std.specs.Prelude.{if◌then◌else◌}
 use Rattle.fj_value.specs.declared.condition.Condition.{Condition}
 use Rattle.fj_value.specs.declared.condition.Condition.TheVariants.{Fine, EndOfFile, EndOfRecord, Error}
-use Rattle.fj_modes.specs.declared.unit.UnitRef.{UnitRef}
-use Rattle.fj_modes.specs.declared.unit.UnitRef.TheVariants as unit
+use Rattle.fj_statement.specs.declared.unit.UnitRef.{UnitRef}
+use Rattle.fj_statement.specs.declared.unit.UnitRef.TheVariants as unit
 use Rattle.fj_list.specs.declared.moved.Moved.{Moved}
 use Rattle.fj_control.specs.Steps.{Given}
 use Rattle.fj_statement.specs.declared.deck.Variable.{Variable}
@@ -57,6 +57,8 @@ module _ (control : ℕ → List Given) (variables : List Variable) (line : ℕ)
   transfer_none : (moved : Moved) (to : UnitRef) → AwaitsNone (transfer_at control variables line core t moved to)
   transfer_none moved unit.Star = tt
   transfer_none moved (unit.Number n) = unit_none moved (connected_at core.units n)
+  transfer_none moved (unit.Held place n) = unit_none moved (connected_at core.units n)
+  transfer_none moved (unit.New place n) = unit_none moved (connected_at core.units n)
 
 -- where nothing is told, no halt ends
 pub none_halted : (us : List Connected) → halted_slots [] us ≡ []

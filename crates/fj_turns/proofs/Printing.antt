@@ -7,9 +7,9 @@ use Rattle.fj_value.specs.declared.condition.Condition.TheVariants.{Fine}
 use Rattle.fj_modes.specs.declared.modes.Modes.{Modes}
 use Rattle.fj_modes.specs.declared.specifiers.OpenSpec.{OpenSpec}
 use Rattle.fj_modes.specs.declared.asked.Wanted.{Wanted}
-use Rattle.fj_modes.specs.declared.unit.Motion.{Motion}
-use Rattle.fj_modes.specs.declared.unit.UnitRef.{UnitRef}
-use Rattle.fj_modes.specs.declared.unit.UnitRef.TheVariants as unit
+use Rattle.fj_modes.specs.declared.motion.Motion.{Motion}
+use Rattle.fj_statement.specs.declared.unit.UnitRef.{UnitRef}
+use Rattle.fj_statement.specs.declared.unit.UnitRef.TheVariants as unit
 use Rattle.fj_list.specs.declared.moved.Moved.{Moved}
 use Rattle.fj_control.specs.Steps.{Given}
 use Rattle.fj_statement.specs.declared.deck.Variable.{Variable}
@@ -27,7 +27,7 @@ use Rattle.fj_desk.specs.Core.{Core, Connected, connected_at, unit_named}
 use Rattle.fj_desk.specs.Desks.{Desk, Outcome, carry, log_length}
 use Rattle.fj_desk.specs.Desks as desks
 use Rattle.fj_desk.specs.Doing.{Doing, finishes, gives, awaits, Desked, acted}
-use Rattle.fj_desk.specs.Acting.{finishes_behind, transferred, on_unit, transfer_at, keeps, disconnected, came_out, detaches, closes, closes_anyway, all_closed, connects, opens, moves, asks_connection, inquires, if_numbered, unit_at, own, doing}
+use Rattle.fj_desk.specs.Acting.{finishes_behind, transferred, on_unit, transfer_at, keeps, disconnected, came_out, detaches, closes, closes_anyway, all_closed, connects, opens_unit, moves, asks_connection, inquires, if_numbered, unit_at, own, doing}
 use Rattle.fj_desk.specs.Desking.{told_core}
 use Rattle.fj_desk.proofs.Walking.{either, unit_by, closes_by, anyway_by, connects_by, open_by, doing_by}
 use Rattle.fj_turns.specs.Run.{Held}
@@ -90,9 +90,9 @@ all_silent o (u ∷ us) core condition h = detaches_silent o core u (keeps u) (�
 connects_silent : (o : Output) (core : Core) (number : ℕ) (spec : OpenSpec) (modes : Modes) → core.output ≡ o → Silent o (connects number spec modes core)
 connects_silent o core number spec modes h = connects_by (Silent o) core number spec modes (λ condition. h) (λ slot c free e. (h, λ x. h))
 
-open_silent : (core : Core) (spec : OpenSpec) (number : Option ℕ) → Silent core.output (if_numbered core number (λ n. opens core n spec (connected_at core.units n)))
-open_silent core spec number =
-    open_by (Silent core.output) core spec number (λ condition. refl) (λ n u modes is e. (refl, λ x. refl)) (λ n modes is e. connects_silent core.output core n spec modes refl)
+open_silent : (core : Core) (ref : UnitRef) (spec : OpenSpec) (number : Option ℕ) → Silent core.output (if_numbered core number (λ n. opens_unit core ref n spec (connected_at core.units n)))
+open_silent core ref spec number =
+    open_by (Silent core.output) core ref spec number (λ condition. refl) (λ n u modes is e. (refl, λ x. refl)) (λ n modes is e. connects_silent core.output core n spec modes refl)
     (λ n u modes is e other. detaches_silent core.output core u (keeps u) (connects n spec modes) refl (λ new h. connects_silent core.output new n spec modes h))
 
 -- ---- the motions, INQUIRE
@@ -140,10 +140,18 @@ transfer_silent t (unit.Number n) e =
     inr (doing_silent (statement.Transfer t) (λ control variables line core.
     subst (λ u. Silent core.output (transfer_at control variables line core t (moved_in variables core.vars t) u)) (sym e)
     (unit_silent control variables line core t (moved_in variables core.vars t) (connected_at core.units n))))
+transfer_silent t (unit.Held place n) e =
+    inr (doing_silent (statement.Transfer t) (λ control variables line core.
+    subst (λ u. Silent core.output (transfer_at control variables line core t (moved_in variables core.vars t) u)) (sym e)
+    (unit_silent control variables line core t (moved_in variables core.vars t) (connected_at core.units n))))
+transfer_silent t (unit.New place n) e =
+    inr (doing_silent (statement.Transfer t) (λ control variables line core.
+    subst (λ u. Silent core.output (transfer_at control variables line core t (moved_in variables core.vars t) u)) (sym e)
+    (unit_silent control variables line core t (moved_in variables core.vars t) (connected_at core.units n))))
 
 alone_or_silent : (what : Statement) → IsAlone what ⊎ IsSilent what
 alone_or_silent (statement.Assign to from) = inr (doing_silent (statement.Assign to from) (λ control variables line core. refl))
-alone_or_silent (statement.OpenUnit u spec iostat) = inr (doing_silent (statement.OpenUnit u spec iostat) (λ control variables line core. open_silent core spec (number_of u)))
+alone_or_silent (statement.OpenUnit u spec iostat) = inr (doing_silent (statement.OpenUnit u spec iostat) (λ control variables line core. open_silent core u spec (number_of u)))
 alone_or_silent (statement.CloseUnit u keep iostat) = inr (doing_silent (statement.CloseUnit u keep iostat) (λ control variables line core. closes_silent core keep (unit_at core (number_of u))))
 alone_or_silent (statement.WaitFor u id iostat) = inr (doing_silent (statement.WaitFor u id iostat) (λ control variables line core. refl))
 alone_or_silent (statement.Move how u iostat) = inr (doing_silent (statement.Move how u iostat) (λ control variables line core. moves_silent core how (unit_at core (number_of u))))

@@ -1,9 +1,9 @@
 -- The runner served alone, through a whole statement.
 use Rattle.std.proofs.Common.{◌≡◌, ℕ, ◌<◌, Bool, true, false, List, [], ◌∷◌, map, Option, Some, None, refl, sym, ap, ◌∙◌, subst}
 use Rattle.std.specs.Prelude.{if◌then◌else◌, filter}
-use Rattle.fj_value.specs.Condition.{code_of}
 use Rattle.fj_value.specs.declared.condition.Condition.{Condition}
 use Rattle.fj_value.specs.declared.condition.Rule.{Rule}
+use Rattle.fj_statement.specs.declared.statement.Statement.{Statement}
 use Rattle.fj_statement.specs.declared.deck.Variable.{Variable}
 use Rattle.fj_slot.specs.Serving.{Meaning}
 use Rattle.fj_world.specs.Conduct.{Conduct}
@@ -11,18 +11,16 @@ use Rattle.fj_world.specs.Plain.{Plain, PlainSlot}
 use Rattle.fj_bay.specs.Bay.{Bay}
 use Rattle.fj_bay.specs.Jobs.{Job, Answer, resume}
 use Rattle.fj_plain.specs.State.{Entry}
-use Rattle.fj_plain.specs.Statement.{Stated, Ending, iostat_of}
+use Rattle.fj_plain.specs.Statement.{Stated, Ending}
 use Rattle.fj_plain.specs.Telling.{condition_of, tells_cause}
-use Rattle.fj_plain.specs.Transfers.{with_number}
-use Rattle.fj_store.specs.Variables.{Variables}
 use Rattle.fj_desk.specs.Core.{Core, Connected}
 use Rattle.fj_desk.specs.Desks.{Desk, carry, resumed, most_slots}
 use Rattle.fj_desk.specs.Doing.{Doing, Desked, acted}
 use Rattle.fj_desk.specs.Acting.{doing}
-use Rattle.fj_desk.specs.Desking.{told_core, acts, completed, goes_on, desk_step}
+use Rattle.fj_desk.specs.Desking.{defined, told_core, acts, completed, goes_on, desk_step}
 use Rattle.fj_desk.proofs.Apart.{Each, each_filter, each_map}
 use Rattle.fj_turns.specs.Run.{Run}
-use Rattle.fj_turns.specs.Turns.{Turn, with_core, halted_slots, ends_halts, doing_told, with_iostat, turn_act, finish_by, with_tells, turn_wait, rule_of, start_by, turn_start}
+use Rattle.fj_turns.specs.Turns.{Turn, with_core, halted_slots, ends_halts, doing_told, with_iostat, turn_act, finish_by, with_tells, turn_wait, rule_of, start_by, turn_begun}
 use Rattle.fj_turns.specs.Serving.{over_bays, Shows, run_conduct}
 use Rattle.fj_turns.specs.Inside.{waited_at, does}
 use Rattle.fj_turns.specs.Standing.{Reaches}
@@ -78,11 +76,11 @@ told_keeps variables st told core h =
     (doing_keeps st.1 variables st.0.line new st.0.what (condition_of told) h)
 
 module _ {E J A : Type 0} (m : Meaning E J A Bay Job Answer) where
-  -- other variables
-  vars_ties : (r : Run) (qs : List (PlainSlot Bay Job)) (p : Desked) (vars : Variables) → Ties m r qs p
-      → Ties m (record r { core = record r.core { vars = vars } }) qs (record { core = record p.core { vars = vars }; desks = p.desks })
-  vars_ties r qs p vars t = record {
-    core = ap (λ (k : Core). record k { vars = vars }) t.core;
+  -- what the end of a statement defines
+  defined_ties : (variables : List Variable) (st : Statement) (condition : Condition) (r : Run) (qs : List (PlainSlot Bay Job)) (p : Desked) → Ties m r qs p
+      → Ties m (record r { core = defined variables st condition r.core }) qs (record { core = defined variables st condition p.core; desks = p.desks })
+  defined_ties variables st condition r qs p t = record {
+    core = ap (defined variables st condition) t.core;
     desks = t.desks;
     sent = t.sent;
     told = t.told;
@@ -113,8 +111,8 @@ module _ {E J A S : Type 0} (m : Meaning E J A Bay Job Answer) (s : Shows S) (P 
   finishes_step st rest r done x a = record {
     run = with_core (with_iostat st done.1 a.run done.0.core) a.run;
     slots = a.slots;
-    ties = subst (λ vs. Ties m (with_core (with_iostat st done.1 a.run done.0.core) a.run) a.slots (record { core = record (done.0.core) { vars = with_number vs (iostat_of st.0.what) (code_of done.1) done.0.core.vars }; desks = done.0.desks })) a.variables
-        (vars_ties m (with_core done.0.core a.run) a.slots done.0 (with_number a.run.variables (iostat_of st.0.what) (code_of done.1) done.0.core.vars) a.ties);
+    ties = subst (λ vs. Ties m (with_core (with_iostat st done.1 a.run done.0.core) a.run) a.slots (record { core = defined vs st.0.what done.1 done.0.core; desks = done.0.desks })) a.variables
+        (defined_ties m a.run.variables st.0.what done.1 (with_core done.0.core a.run) a.slots done.0 a.ties);
     ending = a.ending;
     variables = a.variables;
     reaches = a.reaches;
@@ -154,9 +152,9 @@ module _ {E J A S : Type 0} (m : Meaning E J A Bay Job Answer) (s : Shows S) (P 
 
   pub step_reaches : (st : Stated) (rest : List Stated) (r : Run) (qs : List (PlainSlot Bay Job)) (p : Desked)
       → Ties m r qs p → r.ending ≡ None → r.rest ≡ st ∷ rest → (rule_of r.variables st p.core ≡ None → MayStand m s P r.variables st rest p)
-      → Stepped st rest r (desk_step r.variables st p) (turned rest (turn_start st r) qs)
+      → Stepped st rest r (desk_step r.variables st p) (turned rest (turn_begun st r) qs)
   step_reaches st rest r qs p t none is ok =
-      subst (λ d. Stepped st rest r d (turned rest (turn_start st r) qs)) (sym (step_is r.variables st p))
+      subst (λ d. Stepped st rest r d (turned rest (turn_begun st r) qs)) (sym (step_is r.variables st p))
       (subst (λ k. Stepped st rest r (goes_on st.1 r.variables st.0.line st.0.what p (rule_of r.variables st p.core)) (turned rest (start_by st (rule_of r.variables st k) r) qs)) (sym t.core)
       (by (rule_of r.variables st p.core) refl))
     where

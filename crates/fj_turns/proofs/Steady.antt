@@ -1,5 +1,5 @@
 -- What the runner keeps, whatever answers are given back to it.
-use Rattle.std.proofs.Common.{◌≡◌, ◌⊎◌, ℕ, zero, suc, ◌+◌, ◌-◌, ◌*◌, ◌<◌, ◌≤◌, Bool, true, false, not, List, [], ◌∷◌, ◌++◌, map, length, Option, Some, None, get_or, refl, sym, ap, ◌∙◌, subst, inl, inr, ◌&&◌, arith}
+use Rattle.std.proofs.Common.{◌≡◌, ◌⊎◌, ℕ, zero, suc, ◌+◌, ◌-◌, ◌*◌, ◌<◌, ◌≤◌, Bool, true, false, not, List, [], ◌∷◌, ◌++◌, map, length, drop, Option, Some, None, get_or, refl, sym, ap, ◌∙◌, subst, inl, inr, ◌&&◌, arith}
 use Rattle.std.specs.Prelude.{if◌then◌else◌, filter, ◌==◌}
 use Rattle.std.proofs.lemmas.Bool.{eq-eqb}
 use Rattle.std.proofs.lemmas.Bool.Decides.{eqb_tells}
@@ -16,7 +16,7 @@ use Rattle.fj_desk.specs.Doing.{Doing, finishes, gives, awaits}
 use Rattle.fj_desk.specs.Desking.{told_core}
 use Rattle.fj_desk.proofs.Apart.{Each, each_filter, each_append, each_imp, each_map, filter_map}
 use Rattle.fj_turns.specs.Run.{Held, Stage, Start, Waiting, Acting, Awaiting, Run}
-use Rattle.fj_turns.specs.Turns.{Turn, Pauses, Passes, Stops, matched, with_core, unsettled, bump, settles, doing_told, with_iostat, turn_finish, turn_act, finish_by, with_tells, wait_by, waited_now, start_by, rule_of, turn, is_at, stage_told, told_of}
+use Rattle.fj_turns.specs.Turns.{Turn, Pauses, Passes, Stops, matched, with_core, unsettled, bump, settles, doing_told, with_iostat, turn_finish, turn_act, finish_by, with_tells, wait_by, waited_now, start_by, rule_of, begun_for, hand_at, with_hand, turn, is_at, stage_told, told_of}
 use Rattle.fj_turns.specs.Few.{most_jobs}
 use Rattle.fj_turns.proofs.Slots.{get_set_here, get_set_other, length_set}
 use Rattle.fj_turns.proofs.Counts.{left_over, left_sent, left_told, some_inside}
@@ -329,8 +329,11 @@ start_steady st rest jobs n r t is e few (Some rule) = tt
 start_steady st rest jobs n r t is e few None = wait_steady st rest jobs n r t is e few (unsettled (waited_now st r) r.book) refl
 
 pub turn_steady : (st : Stated) (rest : List Stated) (jobs n : ℕ) (r : Run) → Sound r → r.rest ≡ st ∷ rest → 2 * (jobs + weight rest) + left_over r.sent r.told ≤ n
-    → (stage : Stage) → AtStage jobs r stage → TurnSteady st rest n (turn st stage r)
-turn_steady st rest jobs n r t is e Start few = start_steady st rest jobs n r t is e few (rule_of r.variables st r.core)
+    → (stage : Stage) → AtStage jobs r stage → TurnSteady (hand_at st stage r) rest n (turn st stage r)
+turn_steady st rest jobs n r t is e Start few =
+    let x : Stated = begun_for r st in
+    start_steady x rest jobs n (with_hand x r) (record { seated = t.seated; sent = t.sent; told = t.told; within = t.within; same = t.same; open_ones = t.open_ones; ending = t.ending })
+    (ap (λ l. x ∷ drop 1 l) is) e few (rule_of r.variables x r.core)
 turn_steady st rest jobs n r t is e Waiting few = wait_steady st rest jobs n r t is e few (unsettled (waited_now st r) r.book) refl
 turn_steady st rest jobs n r t is e (Acting d) y = act_steady st rest jobs n d r t is e y
 turn_steady st rest jobs n r t is e (Awaiting slot number next) y =

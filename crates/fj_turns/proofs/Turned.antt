@@ -20,7 +20,7 @@ use Rattle.fj_desk.specs.Desks as desks
 use Rattle.fj_desk.specs.Doing.{Doing, awaits, Desked}
 use Rattle.fj_desk.specs.Desking.{told_core, goes_on}
 use Rattle.fj_turns.specs.Run.{Stage, Start, Waiting, Acting, Awaiting, Run}
-use Rattle.fj_turns.specs.Turns.{unsettled, settles, doing_told, turn_act, with_tells, turn_tell, wait_by, waited_now, start_by, rule_of, turn, told_of}
+use Rattle.fj_turns.specs.Turns.{unsettled, settles, doing_told, turn_act, with_tells, turn_tell, wait_by, waited_now, start_by, rule_of, begun_for, hand_at, turn_on, told_of}
 use Rattle.fj_turns.specs.Serving.{over_bays}
 use Rattle.fj_turns.specs.Inside.{waited_at, does}
 use Rattle.fj_turns.specs.Passing.{told_at, knows_at}
@@ -208,7 +208,7 @@ module _ {E J A : Type 0} (m : Meaning E J A Bay Job Answer) where
       → r.core.tells ++ map (tell_of st.0.line) (waited_now st r) ≡ p.core.tells ++ map (tell_of st.0.line) (waited_at st p)
   now_told st p r qs t e = ap (λ k. k.tells ++ map (tell_of st.0.line) (waited_now st r)) t.core ∙ ap (λ es. p.core.tells ++ map (tell_of st.0.line) es) (waited_is m st r qs p t e)
 
-  -- ---- each stage
+  -- ---- each stage, of a statement that has begun
 
   start_comes : (st : Stated) (p : Desked) (r : Run) (qs : List (PlainSlot Bay Job)) → Ties m r qs p → r.ending ≡ None → (o : Option Rule) → rule_of r.variables st p.core ≡ o
       → TurnComes m r.variables st p r.rest qs (start_by st o r)
@@ -225,13 +225,13 @@ module _ {E J A : Type 0} (m : Meaning E J A Bay Job Answer) where
   start_leaves st p r qs t None e = wait_leaves st p r qs t e (unsettled (waited_now st r) r.book) refl
 
   pub stage_comes : (st : Stated) (p : Desked) (r : Run) (qs : List (PlainSlot Bay Job)) → r.ending ≡ None → (stage : Stage) → AtStage m r.variables st p r qs stage
-      → TurnComes m r.variables st p r.rest qs (turn st stage r)
+      → TurnComes m r.variables st p r.rest qs (turn_on st stage r)
   stage_comes st p r qs none Start t = start_comes st p r qs t none (rule_of r.variables st r.core) (sym (ap (rule_of r.variables st) t.core))
   stage_comes st p r qs none Waiting (t, allowed) = wait_comes st p r qs t allowed none (unsettled (waited_now st r) r.book) refl
   stage_comes st p r qs none (Acting d) (w, allowed) = act_comes m st p r qs d w allowed none
   stage_comes st p r qs none (Awaiting slot number next) (w, allowed) = own_comes st p r qs slot number next w allowed none
 
-  pub stage_leaves : (st : Stated) (p : Desked) (r : Run) (qs : List (PlainSlot Bay Job)) → (stage : Stage) → AtStage m r.variables st p r qs stage → Leaves m r.variables st p (turn st stage r)
+  pub stage_leaves : (st : Stated) (p : Desked) (r : Run) (qs : List (PlainSlot Bay Job)) → (stage : Stage) → AtStage m r.variables st p r qs stage → Leaves m r.variables st p (turn_on st stage r)
   stage_leaves st p r qs Start t = start_leaves st p r qs t (rule_of r.variables st r.core) (sym (ap (rule_of r.variables st) t.core))
   stage_leaves st p r qs Waiting (t, allowed) = wait_leaves st p r qs t allowed (unsettled (waited_now st r) r.book) refl
   stage_leaves st p r qs (Acting d) (w, allowed) = act_leaves m st p r qs d w allowed
@@ -239,9 +239,14 @@ module _ {E J A : Type 0} (m : Meaning E J A Bay Job Answer) where
       w.output ∙ sym (step_output r.variables st p w.jobs w.at (awaits slot w.job w.now.core next) p.core.output allowed w.walk (ap (λ k. k.output) (sym w.ties.core) ∙ w.output, w.silent))
 
   -- the tells once it knows the answers of those that it waits for
-  pub stage_tells : (variables : List Variable) (st : Stated) (p : Desked) (r : Run) (qs : List (PlainSlot Bay Job)) → (stage : Stage) → AtStage m variables st p r qs stage → knows_at st stage r
-      → told_at st stage r ≡ tells_then m variables st p
-  stage_tells variables st p r qs Start t e = now_told st p r qs t e
-  stage_tells variables st p r qs Waiting (t, allowed) e = now_told st p r qs t e
-  stage_tells variables st p r qs (Acting d) (w, allowed) e = w.tells
-  stage_tells variables st p r qs (Awaiting slot number next) (w, allowed) e = w.tells
+  pub stage_tells : (variables : List Variable) (first st : Stated) (p : Desked) (r : Run) (qs : List (PlainSlot Bay Job)) → (stage : Stage) → AtStage m variables st p r qs stage → hand_at first stage r ≡ st
+      → knows_at first stage r → told_at first stage r ≡ tells_then m variables st p
+  stage_tells variables first st p r qs Start t h e = by st h (now_told st p r qs t)
+    where
+      by : (y : Stated) → begun_for r first ≡ y → (unsettled (waited_now y r) r.book ≡ None → r.core.tells ++ map (tell_of y.0.line) (waited_now y r) ≡ tells_then m variables st p)
+          → r.core.tells ++ map (tell_of first.0.line) (waited_now (begun_for r first) r) ≡ tells_then m variables st p
+      by y q f = subst (λ (z : Stated). unsettled (waited_now z r) r.book ≡ None → r.core.tells ++ map (tell_of z.0.line) (waited_now z r) ≡ tells_then m variables st p) (sym q) f e
+  stage_tells variables first st p r qs Waiting (t, allowed) h e =
+      subst (λ (z : Stated). unsettled (waited_now z r) r.book ≡ None → r.core.tells ++ map (tell_of z.0.line) (waited_now z r) ≡ tells_then m variables st p) (sym h) (now_told st p r qs t) e
+  stage_tells variables first st p r qs (Acting d) (w, allowed) h e = w.tells
+  stage_tells variables first st p r qs (Awaiting slot number next) (w, allowed) h e = w.tells

@@ -1,5 +1,5 @@
 -- The jobs that a statement waits for, by slot and number.
-use Rattle.std.specs.Prelude.{◌≡◌, ◌⊎◌, ℕ, ◌<◌, true, List, Some, None, drop, slice_get, get_or}
+use Rattle.std.specs.Prelude.{◌≡◌, ◌⊎◌, ℕ, ◌<◌, true, List, Some, None, length, drop, slice_get, get_or}
 use Rattle.fj_statement.specs.declared.deck.Variable.{Variable}
 use Rattle.fj_slot.specs.Serving.{Meaning}
 use Rattle.fj_world.specs.declared.ask.Ask.TheVariants.{Finished}
@@ -57,7 +57,7 @@ pub record HasAwaited (variables : List Variable) (deck : List Stated) (files : 
   pub statement : Stated
   pub before : Desked
   pub reached : cut_desks variables index deck (fresh variables files) ≡ Some (statement, before)
-  pub rest : run.rest ≡ drop index deck
+  pub rest : length run.rest ≡ length (drop index deck)
   pub told : AwaitedAreTold variables deck (fresh variables files) index run.told
 
 module _ {E J A S : Type 0} (m : Meaning E J A Bay Job Answer) (s : Shows S) where

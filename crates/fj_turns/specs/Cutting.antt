@@ -1,5 +1,5 @@
 -- What is known where a script is told a stop: the execution is cut just before a statement.
-use Rattle.std.specs.Prelude.{◌≡◌, ◌⊎◌, ℕ, true, List, take, drop, get_or, Some, None, is_some, slice_get}
+use Rattle.std.specs.Prelude.{◌≡◌, ◌⊎◌, ℕ, true, List, take, length, drop, get_or, Some, None, is_some, slice_get}
 use Rattle.fj_statement.specs.declared.deck.Variable.{Variable}
 use Rattle.fj_slot.specs.Ledger.{Ledger}
 use Rattle.fj_slot.specs.Serving.{Meaning}
@@ -31,7 +31,7 @@ pub record StopAt (variables : List Variable) (deck : List Stated) (first : Desk
   pub statement : Stated
   pub before : Desked
   pub reached : cut_desks variables index deck first ≡ Some (statement, before)
-  pub rest : run.rest ≡ drop index deck
+  pub rest : length run.rest ≡ length (drop index deck)
   pub allowed : rule_of variables statement before.core ≡ None
   pub learnt : Waits statement before slot run desks ⊎ AwaitsJob variables statement before slot run desks
   pub jobs : ℕ

@@ -7,7 +7,7 @@ use Rattle.fj_plain.specs.Telling.{waited_in}
 use Rattle.fj_plain.specs.Statement.{Stated}
 use Rattle.fj_desk.specs.Desks.{Desk, carry, outcome, log_length}
 use Rattle.fj_desk.specs.Doing.{Doing, finishes, gives, awaits, Desked, given}
-use Rattle.fj_desk.specs.Desking.{entries, desk_step}
+use Rattle.fj_desk.specs.Desking.{entries, begun_at, desk_step}
 use Rattle.fj_turns.specs.Turns.{doing_told}
 
 -- the transfers that it tells
@@ -28,12 +28,12 @@ walked (suc k) desks (finishes core condition) = (desks, finishes core condition
 walked (suc k) desks (gives slot job core next) = walked k (carry desks slot job) (next (log_length (slice_get desks slot)))
 walked (suc k) desks (awaits slot job core next) = walked k (carry desks slot job) (next (outcome desks slot job))
 
--- just before the statement at a place of the deck, counted from 0; none where the execution ends before it
+-- just before the statement at a place of the deck, counted from 0, that one as it begins; none where the execution ends before it
 abbrev pub cut_desks : List Variable → ℕ → List Stated → Desked → Option (Stated × Desked)
 cut_desks variables index [] p = None
-cut_desks variables zero (st ∷ more) p = Some (st, p)
+cut_desks variables zero (st ∷ more) p = Some (begun_at p st, p)
 cut_desks variables (suc index) (st ∷ more) p =
-    let done = desk_step variables st p in
+    let done = desk_step variables (begun_at p st) p in
     elim done.1 as (λ _. Option (Stated × Desked)) [
       | None ↦ cut_desks variables index more done.0
       | Some e ↦ None

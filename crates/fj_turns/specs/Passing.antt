@@ -1,5 +1,5 @@
 -- The runner before it asks: the statements that it passes until it pauses, and where in a deck it stands.
-use Rattle.std.specs.Prelude.{◌≡◌, ◌⊎◌, ℕ, zero, suc, false, List, [], ◌∷◌, ◌++◌, map, drop, Option, Some, None, IsSome, option_and_then}
+use Rattle.std.specs.Prelude.{◌≡◌, ◌⊎◌, ℕ, zero, suc, false, List, [], ◌∷◌, ◌++◌, map, length, drop, Option, Some, None, IsSome, option_and_then}
 use Rattle.fj_statement.specs.declared.deck.Variable.{Variable}
 use Rattle.fj_slot.specs.Serving.{Meaning}
 use Rattle.fj_world.specs.declared.ask.Ask.TheVariants.{Finished}
@@ -16,7 +16,7 @@ use Rattle.fj_desk.specs.Desks.{Desk}
 use Rattle.fj_desk.specs.Doing.{Desked}
 use Rattle.fj_desk.specs.Desking.{desk_step, fresh}
 use Rattle.fj_turns.specs.Run.{Run, Stage, Start, Waiting, Acting, Awaiting}
-use Rattle.fj_turns.specs.Turns.{Turn, Pauses, Passes, Stops, turn, unsettled, waited_now}
+use Rattle.fj_turns.specs.Turns.{Turn, Pauses, Passes, Stops, hand_at, turn, unsettled, waited_now}
 use Rattle.fj_turns.specs.Serving.{over_bays, Shows, run_conduct, desks_of, first_run, fresh_slots, begins}
 use Rattle.fj_turns.specs.Inside.{waited_at, does, walked, cut_desks}
 use Rattle.fj_turns.specs.Standing.{HasTold}
@@ -54,18 +54,24 @@ abbrev pub turn_output : Run → Output
 turn_output r = output_due r.rest r
 
 -- the tells once the transfers that a statement waits for are told
+abbrev pub told_on : Stated → Stage → Run → List Tell
+told_on st Start r = r.core.tells ++ map (tell_of st.0.line) (waited_now st r)
+told_on st Waiting r = r.core.tells ++ map (tell_of st.0.line) (waited_now st r)
+told_on st (Acting does) r = r.core.tells
+told_on st (Awaiting slot number next) r = r.core.tells
+
 abbrev pub told_at : Stated → Stage → Run → List Tell
-told_at st Start r = r.core.tells ++ map (tell_of st.0.line) (waited_now st r)
-told_at st Waiting r = r.core.tells ++ map (tell_of st.0.line) (waited_now st r)
-told_at st (Acting does) r = r.core.tells
-told_at st (Awaiting slot number next) r = r.core.tells
+told_at st stage r = told_on (hand_at st stage r) stage r
 
 -- the answers of these transfers are known
+abbrev pub knows_on : Stated → Stage → Run → Type 0
+knows_on st Start r = unsettled (waited_now st r) r.book ≡ None
+knows_on st Waiting r = unsettled (waited_now st r) r.book ≡ None
+knows_on st (Acting does) r = Unit {0}
+knows_on st (Awaiting slot number next) r = Unit {0}
+
 abbrev pub knows_at : Stated → Stage → Run → Type 0
-knows_at st Start r = unsettled (waited_now st r) r.book ≡ None
-knows_at st Waiting r = unsettled (waited_now st r) r.book ≡ None
-knows_at st (Acting does) r = Unit {0}
-knows_at st (Awaiting slot number next) r = Unit {0}
+knows_at st stage r = knows_on (hand_at st stage r) stage r
 
 abbrev pub known_due : List Stated → Run → Type 0
 known_due [] r = Unit {0}
@@ -102,7 +108,7 @@ pub record StandsAt (variables : List Variable) (deck : List Stated) (first : De
   pub statement : Stated
   pub before : Desked
   pub reached : cut_desks variables index deck first ≡ Some (statement, before)
-  pub rest : run.rest ≡ drop index deck
+  pub rest : length run.rest ≡ length (drop index deck)
   pub point : IsBefore before run desks ⊎ IsOnward variables statement before run desks
   pub output : run.core.output ≡ before.core.output
   pub due : turn_output run ≡ (desk_step variables statement before).0.core.output
@@ -124,7 +130,7 @@ pub record AsksAt (variables : List Variable) (deck : List Stated) (first : Desk
   pub statement : Stated
   pub before : Desked
   pub reached : cut_desks variables index deck first ≡ Some (statement, before)
-  pub rest : run.rest ≡ drop index deck
+  pub rest : length run.rest ≡ length (drop index deck)
   pub output : run.core.output ≡ before.core.output
   pub due : (desk_step variables statement before).0.core.output ≡ before.core.output
   pub tells : (run.core.tells ≡ before.core.tells) ⊎ HasTold statement before run
@@ -142,7 +148,7 @@ pub record EndsAt (variables : List Variable) (deck : List Stated) (files : File
   pub statement : Stated
   pub before : State
   pub reached : cut variables index deck (start variables files) ≡ Some (statement, before)
-  pub rest : run.rest ≡ drop index deck
+  pub rest : length run.rest ≡ length (drop index deck)
   pub executed_is : executed variables deck (start variables files) ≡ record { state = (step variables statement before).0; ending = (step variables statement before).1 }
   pub ends : IsSome (step variables statement before).1
 

@@ -1,5 +1,5 @@
 -- The runner served alone: where in a statement it stands, and what it comes to.
-use Rattle.std.specs.Prelude.{◌≡◌, ◌⊎◌, ℕ, zero, suc, ◌≤◌, true, List, ◌++◌, map, drop, slice_get, get_or, Some, None}
+use Rattle.std.specs.Prelude.{◌≡◌, ◌⊎◌, ℕ, zero, suc, ◌≤◌, true, List, ◌++◌, map, length, drop, slice_get, get_or, Some, None}
 use Rattle.fj_statement.specs.declared.deck.Variable.{Variable}
 use Rattle.fj_statement.specs.declared.statement.Statement.TheVariants as statement
 use Rattle.fj_statement.specs.declared.statement.Transfer.{Transfer}
@@ -91,6 +91,6 @@ module _ {E J A S : Type 0} (m : Meaning E J A Bay Job Answer) (s : Shows S) whe
     pub statement : Stated
     pub before : Desked
     pub reached : cut_desks variables index deck first ≡ Some (statement, before)
-    pub rest : x.script.rest ≡ drop index deck
+    pub rest : length x.script.rest ≡ length (drop index deck)
     pub allowed : rule_of variables statement before.core ≡ None
     pub inside : IsInside variables statement before x

@@ -1,6 +1,5 @@
 -- What the runner asks next, and what it is after each answer.
-use Rattle.std.specs.Prelude.{ℕ, ◌+◌, ◌==◌, ◌&&◌, not, Bool, List, [], ◌∷◌, map, filter, Option, Some, None, is_some, is_none, slice_set, get_or, if◌then◌else◌}
-use Rattle.fj_value.specs.Condition.{code_of}
+use Rattle.std.specs.Prelude.{ℕ, ◌+◌, ◌==◌, ◌&&◌, not, Bool, List, [], ◌∷◌, drop, map, filter, Option, Some, None, is_some, is_none, slice_set, get_or, if◌then◌else◌}
 use Rattle.fj_value.specs.declared.condition.Condition.{Condition}
 use Rattle.fj_value.specs.declared.condition.Rule.{Rule}
 use Rattle.fj_statement.specs.declared.deck.Variable.{Variable}
@@ -11,13 +10,12 @@ use Rattle.fj_plain.specs.State.{Entry}
 use Rattle.fj_book.specs.Prohibitions.{prohibited}
 use Rattle.fj_plain.specs.Needs.{need_by}
 use Rattle.fj_plain.specs.Telling.{waited_in, condition_of, tells_id, tells_cause}
-use Rattle.fj_plain.specs.Transfers.{with_number}
-use Rattle.fj_plain.specs.Statement.{Stated, Ending, prohibition, iostat_of, ends}
+use Rattle.fj_plain.specs.Statement.{Stated, Ending, begins, prohibition, ends}
 use Rattle.fj_desk.specs.Core.{Core, Pending, Connected, pending_holders, unit_named}
 use Rattle.fj_desk.specs.Desks.{Outcome, Brought, brought_by}
 use Rattle.fj_desk.specs.Doing.{Doing, finishes, gives, awaits}
 use Rattle.fj_desk.specs.Acting.{doing}
-use Rattle.fj_desk.specs.Desking.{told_core}
+use Rattle.fj_desk.specs.Desking.{defined, told_core}
 use Rattle.fj_turns.specs.Run.{Held, known, Stage, Start, Waiting, Acting, Awaiting, Run}
 
 -- a turn pauses at an ask, passes on to the next statement, or stops at an ending
@@ -74,7 +72,7 @@ finish_by None r = Passes (record r { stage = Start })
 finish_by (Some e) r = Stops (record r { stage = Start; ending = Some e })
 
 abbrev pub with_iostat : Stated → Condition → Run → Core → Core
-with_iostat st condition r core = record core { vars = with_number r.variables (iostat_of st.0.what) (code_of condition) core.vars }
+with_iostat st condition r core = defined r.variables st.0.what condition core
 
 abbrev pub turn_finish : Stated → Core → Condition → Run → Turn
 turn_finish st core condition r = finish_by (ends st.0.line st.0.what condition) (with_core (with_iostat st condition r core) r)
@@ -109,8 +107,33 @@ start_by st None r = turn_wait st r
 abbrev pub rule_of : List Variable → Stated → Core → Option Rule
 rule_of variables st core = prohibited core.vars (pending_holders core.book) (need_by variables core.vars (unit_named core.units) st.0.what)
 
+-- a statement that begins
+abbrev pub turn_begun : Stated → Run → Turn
+turn_begun st r = start_by st (rule_of r.variables st r.core) r
+
+-- the statement at hand as it begins
+abbrev pub begun_for : Run → Stated → Stated
+begun_for r st = begins r.core.vars r.core.new_unit st
+
+-- or as it stands once it has begun
+abbrev pub hand_at : Stated → Stage → Run → Stated
+hand_at st Start r = begun_for r st
+hand_at st Waiting r = st
+hand_at st (Acting does) r = st
+hand_at st (Awaiting slot number next) r = st
+
+abbrev pub with_hand : Stated → Run → Run
+with_hand st r = record r { rest = st ∷ drop 1 r.rest }
+
 abbrev pub turn_start : Stated → Run → Turn
-turn_start st r = start_by st (rule_of r.variables st r.core) r
+turn_start st r = turn_begun (begun_for r st) (with_hand (begun_for r st) r)
+
+-- of one that has begun
+abbrev pub turn_on : Stated → Stage → Run → Turn
+turn_on st Start r = turn_begun st r
+turn_on st Waiting r = turn_wait st r
+turn_on st (Acting does) r = turn_act st does r
+turn_on st (Awaiting slot number next) r = settles slot (Awaiting slot number next) r
 
 abbrev pub turn : Stated → Stage → Run → Turn
 turn st Start r = turn_start st r

@@ -10,7 +10,8 @@ ghost use Rattle.fj_units.specs.Names.{left_of};
 ghost use Rattle.fj_units.specs.Units.{AreApart, connected_of, has_slot, is_taken, with_modes};
 
 use crate::connected::Connected;
-use fj_modes::{FileName, Modes, UnitRef};
+use fj_modes::{FileName, Modes};
+use fj_statement::UnitRef;
 use std::alloc::{AllocError, Global};
 use std::marker::Model;
 
@@ -191,9 +192,9 @@ impl Units {
     pub fn at(&self, unit: UnitRef) -> Option<&Connected>
         ensures { option_map connected_of (option_copied result) ≡ option_and_then (connected_at self.now) (number_of unit) }
     {
-        match unit {
-            UnitRef::Star => None,
-            UnitRef::Number(number) => self.find(number),
+        match unit.number() {
+            None => None,
+            Some(number) => self.find(number),
         }
     }
 

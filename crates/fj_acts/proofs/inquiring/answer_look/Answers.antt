@@ -1,9 +1,10 @@
 use Rattle.std.proofs.Common.{◌≡◌, ℕ, List, Option, Some, refl, sym, ap, ◌∙◌}
-use Rattle.std.specs.Prelude.{ℤ, pos}
+use Rattle.std.specs.Prelude.{ℤ}
 use Rattle.std.specs.Option.{option_map, option_copied}
 use Rattle.fj_store.specs.Storage.{values_of}
 use Rattle.fj_bay.specs.Jobs.{Looked}
 use Rattle.fj_bay.specs.Plain.{looked_of}
+use Rattle.fj_statement.specs.Units.{number_from_code}
 use Rattle.fj_plain.specs.Inquiring.{About}
 use Rattle.fj_plain.specs.Needs.{unit_about, number_given}
 use Rattle.fj_plain.specs.Statement.{file_asked, has_pending}
@@ -31,7 +32,7 @@ returns-clause-doing g c = λ st files.
     let u : PlainConnected = connected_of c.in-Some-find.unit.now in
     let connected : Connected = record { modes = u.modes; name = u.name } in
     let pending = c.has_pending-pending.result in
-    let about : told.About = told.connection (pos n) connected c.args.look pending in
+    let about : told.About = told.connection (number_from_code n) connected c.args.look pending in
     let plain : About = about_unit (core_of files old) o file id u seen in
     let cells : c.in_ok-cells.cells ≡ told.inquired about asked = c.in_ok-cells.ensures in
     let alike : AnswersAlike about plain =

@@ -1,5 +1,5 @@
 use Rattle.std.proofs.Common.{◌≡◌, None, Some, sym, ap, ◌∙◌}
-use Rattle.fj_modes.specs.declared.asked.Subject.{Subject}
+use Rattle.fj_statement.specs.declared.unit.Subject.{Subject}
 use Rattle.fj_outside.specs.Holdings.{Holdings}
 use Rattle.fj_plain.specs.Inquiring.{About}
 use Rattle.fj_plain.specs.State.{Files}

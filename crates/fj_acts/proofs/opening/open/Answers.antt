@@ -1,98 +1,30 @@
-use Rattle.std.proofs.Common.{sym, ap, ◌∙◌, subst, ◌≡◌, Some, None, ℕ}
-use Rattle.fj_modes.specs.Modes.{settled}
-use Rattle.fj_desk.specs.Core.{Connected as PlainConnected, Core, connected_at}
-use Rattle.fj_desk.specs.Acting.{opens, opens_with}
-use Rattle.fj_desk.specs.Doing.{Doing as PlainDoing}
+use Rattle.std.proofs.Common.{◌≡◌, true, false, sym, ◌∙◌, inl, inr}
+use Rattle.std.specs.Prelude.{◌⊎◌, is_some}
+use Rattle.fj_statement.specs.Units.{is_outside}
+use Rattle.fj_desk.specs.Core.{Core, connected_at}
 use Rattle.fj_units.specs.Files.{files_of}
 use Rattle.fj_units.specs.Units.{connected_of}
-use Rattle.fj_units.specs.Having.{HaveFiles}
-use Rattle.fj_plain.specs.Needs.{number_of}
-use Rattle.fj_acts.specs.Doing.{IsDoing}
-use Rattle.fj_acts.specs.Having.{OpensAt}
 use Rattle.fj_acts.specs.State.{core_of}
-use Rattle.fj_acts.proofs.FailingLemmas.{fails_as, still_as}
-use Rattle.fj_acts.proofs.OpeningLemmas.{opens_again, opens_none, opens_another, numbered, meant}
-use Rattle.fj_acts.specs.declared.state.Core.{Core as Held}
+use Rattle.fj_acts.proofs.FailingLemmas.{still_as}
+use Rattle.fj_acts.proofs.OpeningLemmas.{found_some, meant, opens_numbered}
 use Rattle.fj_acts.proofs.opening.open.Goals as goal
-use Rattle.fj_acts.proofs.opening.open.Goals.{in-Some+else-keeps_name, in_default-find}
-
-pub returns-then-keeps_name-clause-doing : goal.returns-then-keeps_name-clause-doing
-returns-then-keeps_name-clause-doing g c = λ tells variables st asks.
-    let core : Core = core_of (files_of (g.D.Disk.held c.args.disk.now)) c.args.core.now in
-    let u : PlainConnected = connected_of c.in-Some.unit.now in
-    let found : connected_at c.args.core.now.units c.in-Number.number ≡ Some u = sym c.in-Some.ensures in
-    subst (λ (d : PlainDoing). IsDoing g.D.File.FileStore.told g.D.File.FileStore.bytes variables st core c.change.result d)
-    (opens_again core c.in-Number.number c.args.spec.now (connected_at c.args.core.now.units c.in-Number.number) u found (sym c.keeps_name.ensures ∙ c.if-keeps_name.true)
-    ∙ numbered core c.args.unit c.in-Number.number (λ n. opens core n c.args.spec.now (connected_at c.args.core.now.units n)) c.in-Number.is)
-    (c.change.ensures.doing variables st (files_of (g.D.Disk.held c.args.disk.now)) c.args.core.now found)
+use Rattle.fj_acts.proofs.opening.open.Goals.{else-is_outside-via-then-is_outside+else-is_none, else-is_outside-via-else-is_outside}
 
 pub returns-clause-doing : goal.returns-clause-doing
 returns-clause-doing g c = λ tells variables st asks.
-    let files = files_of (g.D.Disk.held c.args.disk.now) in
-    let core : Core = core_of files c.args.core.now in
-    let number : ℕ = c.in-Number.number in
-    let whole = numbered core c.args.unit number (λ n. opens core n c.args.spec.now (connected_at c.args.core.now.units n)) c.in-Number.is in
-    meant g.D.File.FileStore.told g.D.File.FileStore.bytes variables st _ c.open_other.result _ _
-    (elim c.match-find.branch [
-      | in-Some+else-keeps_name w ↦
-          let u : PlainConnected = connected_of w.in-Some.unit.now in
-          let found : connected_at c.args.core.now.units number ≡ Some u = sym w.in-Some.ensures in
-          let same : c.match-find.core ≡ c.args.core.now = w.core-is in
-          ap (λ (x : Held). opens_with (core_of files x) number c.args.spec.now (connected_at x.units number) (settled c.args.spec.now)) same
-          ∙ opens_another core number c.args.spec.now (connected_at c.args.core.now.units number) u found (sym w.keeps_name.ensures ∙ w.if-keeps_name.false)
-      | in_default-find w ↦
-          let found : connected_at c.args.core.now.units number ≡ None = sym w.in_default-find.ensures in
-          let same : c.match-find.core ≡ c.args.core.now = w.core-is in
-          ap (λ (x : Held). opens_with (core_of files x) number c.args.spec.now (connected_at x.units number) (settled c.args.spec.now)) same
-          ∙ opens_none core number c.args.spec.now (connected_at c.args.core.now.units number) found
-    ] ∙ whole)
-    (c.open_other.ensures.doing tells variables st asks)
+    let core : Core = core_of (files_of (g.D.Disk.held c.args.disk.now)) c.args.core.now in
+    let within : (is_outside c.args.unit ≡ false) ⊎ (is_some (connected_at core.units c.in-Some.number) ≡ true) = elim c.else-is_outside.branch [
+      | else-is_outside-via-then-is_outside+else-is_none w ↦ inr (found_some connected_of _ _ w.find.ensures w.if-is_none.ensures)
+      | else-is_outside-via-else-is_outside w ↦ inl (sym c.is_outside.ensures ∙ w.if-is_outside.false)
+    ] in
+    meant g.D.File.FileStore.told g.D.File.FileStore.bytes variables st _ c.open_numbered.result _ _ (opens_numbered core c.args.unit c.in-Some.number c.args.spec.now (sym c.number.ensures ∙ c.in-Some.is) within) (c.open_numbered.ensures.doing tells variables st asks)
 
 pub returns-clause-stays : goal.returns-clause-stays
 returns-clause-stays g c = λ tells.
-    let files = files_of (g.D.Disk.held c.args.disk.now) in
-    let core : Core = core_of files c.args.core.now in
-    let number : ℕ = c.in-Number.number in
-    let whole = numbered core c.args.unit number (λ n. opens core n c.args.spec.now (connected_at c.args.core.now.units n)) c.in-Number.is in
-    still_as c.open_other.result _ _ (g.D.Disk.held c.args.disk.now) (g.D.Disk.held c.open_other.new.disk)
-    (elim c.match-find.branch [
-      | in-Some+else-keeps_name w ↦
-          let u : PlainConnected = connected_of w.in-Some.unit.now in
-          let found : connected_at c.args.core.now.units number ≡ Some u = sym w.in-Some.ensures in
-          let same : c.match-find.core ≡ c.args.core.now = w.core-is in
-          ap (λ (x : Held). opens_with (core_of files x) number c.args.spec.now (connected_at x.units number) (settled c.args.spec.now)) same
-          ∙ opens_another core number c.args.spec.now (connected_at c.args.core.now.units number) u found (sym w.keeps_name.ensures ∙ w.if-keeps_name.false)
-      | in_default-find w ↦
-          let found : connected_at c.args.core.now.units number ≡ None = sym w.in_default-find.ensures in
-          let same : c.match-find.core ≡ c.args.core.now = w.core-is in
-          ap (λ (x : Held). opens_with (core_of files x) number c.args.spec.now (connected_at x.units number) (settled c.args.spec.now)) same
-          ∙ opens_none core number c.args.spec.now (connected_at c.args.core.now.units number) found
-    ] ∙ whole)
-    (c.open_other.ensures.stays tells)
-
-pub returns-clause-fault : goal.returns-clause-fault
-returns-clause-fault g c = λ tells lost.
-    let files = files_of (g.D.Disk.held c.args.disk.now) in
-    let core : Core = core_of files c.args.core.now in
-    let number : ℕ = c.in-Number.number in
-    let whole = numbered core c.args.unit number (λ n. opens core n c.args.spec.now (connected_at c.args.core.now.units n)) c.in-Number.is in
-    fails_as _ _ c.open_other.new.core (g.D.Disk.held c.open_other.new.disk) (g.D.Disk.refusals c.args.disk.now) (g.D.Disk.refusals c.open_other.new.disk)
-    (elim c.match-find.branch [
-      | in-Some+else-keeps_name w ↦
-          let u : PlainConnected = connected_of w.in-Some.unit.now in
-          let found : connected_at c.args.core.now.units number ≡ Some u = sym w.in-Some.ensures in
-          let same : c.match-find.core ≡ c.args.core.now = w.core-is in
-          ap (λ (x : Held). opens_with (core_of files x) number c.args.spec.now (connected_at x.units number) (settled c.args.spec.now)) same
-          ∙ opens_another core number c.args.spec.now (connected_at c.args.core.now.units number) u found (sym w.keeps_name.ensures ∙ w.if-keeps_name.false)
-      | in_default-find w ↦
-          let found : connected_at c.args.core.now.units number ≡ None = sym w.in_default-find.ensures in
-          let same : c.match-find.core ≡ c.args.core.now = w.core-is in
-          ap (λ (x : Held). opens_with (core_of files x) number c.args.spec.now (connected_at x.units number) (settled c.args.spec.now)) same
-          ∙ opens_none core number c.args.spec.now (connected_at c.args.core.now.units number) found
-    ] ∙ whole)
-    (c.open_other.ensures.fault tells lost)
-
-pub returns-clause-files : goal.returns-clause-files
-returns-clause-files g c = λ what opens have.
-    let same : c.match-find.core ≡ c.args.core.now = elim c.match-find.branch [ in-Some+else-keeps_name w ↦ w.core-is | in_default-find w ↦ w.core-is ] in
-    c.open_other.ensures.files what (subst (λ u. OpensAt what (number_of u) c.args.spec.now) c.in-Number.is opens) (subst (λ (k : Held). HaveFiles k.names k.units) (sym same) have)
+    let core : Core = core_of (files_of (g.D.Disk.held c.args.disk.now)) c.args.core.now in
+    let within : (is_outside c.args.unit ≡ false) ⊎ (is_some (connected_at core.units c.in-Some.number) ≡ true) = elim c.else-is_outside.branch [
+      | else-is_outside-via-then-is_outside+else-is_none w ↦ inr (found_some connected_of _ _ w.find.ensures w.if-is_none.ensures)
+      | else-is_outside-via-else-is_outside w ↦ inl (sym c.is_outside.ensures ∙ w.if-is_outside.false)
+    ] in
+    still_as c.open_numbered.result _ _ (g.D.Disk.held c.args.disk.now) (g.D.Disk.held c.open_numbered.new.disk) (opens_numbered core c.args.unit c.in-Some.number c.args.spec.now (sym c.number.ensures ∙ c.in-Some.is) within)
+    (c.open_numbered.ensures.stays tells)

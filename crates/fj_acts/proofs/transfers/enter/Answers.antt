@@ -14,7 +14,7 @@ returns-clause-entered c = λ files.
     let t = c.args.t.now in
     let new : Core = record old { store = c.set_number.new.store; pending = c.hold.new.pending; next = c.in-Some.next } in
     let values : values_of c.set_number.new.store ≡ with_number variables t.id (pos old.next) (values_of old.store) = search rules in
-    entered_is files variables old new t c.args.unit c.args.slot c.args.number c.in_ok-hold.ensures.ok values c.in-Some.ensures.1 refl refl refl
+    entered_is files variables old new t c.args.unit c.args.slot c.args.number c.in_ok-hold.ensures.ok values c.in-Some.ensures.1 refl refl refl refl
 
 pub returns-clause-pending : goal.returns-clause-pending
 returns-clause-pending c =

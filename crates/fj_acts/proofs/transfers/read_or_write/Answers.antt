@@ -1,4 +1,4 @@
-use Rattle.std.proofs.Common.{ap}
+use Rattle.std.proofs.Common.{sym}
 use Rattle.fj_list.specs.declared.moved.Moved.{Moved}
 use Rattle.fj_statement.specs.declared.statement.Statement.TheVariants as statement
 use Rattle.fj_store.specs.Storage.{values_of}
@@ -7,7 +7,7 @@ use Rattle.fj_plain.specs.Transfers.{moved_in}
 use Rattle.fj_desk.specs.Core.{connected_at}
 use Rattle.fj_desk.specs.Acting.{on_unit, transfer_at}
 use Rattle.fj_acts.specs.State.{core_of}
-use Rattle.fj_acts.proofs.TransferLemmas.{ok_same, hands_nothing}
+use Rattle.fj_acts.proofs.TransferLemmas.{ok_same, hands_nothing, on_number}
 use Rattle.fj_acts.proofs.transfers.read_or_write.Goals as goal
 
 pub returns-in-Number-clause-doing : goal.returns-in-Number-clause-doing
@@ -19,7 +19,7 @@ returns-in-Number-clause-doing g c = λ st files what_is.
     ok_same g.F.FileStore.told g.F.FileStore.bytes variables st (core_of files c.transfer_on.new.core) c.transfer_on.result
     (on_unit (control_by (statement.Transfer t)) variables c.args.line (core_of files old) t moved (connected_at old.units c.in-Number.number))
     (transfer_at (control_by (statement.Transfer t)) variables c.args.line (core_of files old) t moved t.unit)
-    (ap (transfer_at (control_by (statement.Transfer t)) variables c.args.line (core_of files old) t moved) c.in-Number.is) (c.transfer_on.ensures.doing st files what_is)
+    (sym (on_number (control_by (statement.Transfer t)) variables c.args.line (core_of files old) t moved c.in-Number.number t.unit c.in-Number.is)) (c.transfer_on.ensures.doing st files what_is)
 
 pub returns-in-Number-clause-front : goal.returns-in-Number-clause-front
 returns-in-Number-clause-front g c = λ tells files.

@@ -1,4 +1,4 @@
-use Rattle.std.proofs.Common.{subst, sym, ap, ◌∙◌}
+use Rattle.std.proofs.Common.{subst, sym}
 use Rattle.fj_pending.specs.Busy.{AreBusy, without_told}
 use Rattle.fj_pending.proofs.busy.forget.Goals as goal
 

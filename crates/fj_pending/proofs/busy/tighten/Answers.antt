@@ -1,9 +1,5 @@
-use Rattle.std.proofs.Common.{◌≡◌, Some, None, subst, sym, ap, ◌∙◌}
-use Rattle.std.specs.Prelude.{◌==◌}
-use Rattle.std.specs.Option.{option_map}
-use Rattle.std.specs.List.{find}
+use Rattle.std.proofs.Common.{subst, sym, ap, ◌∙◌}
 use Rattle.fj_pending.specs.Busy.{AreBusy, with_transfer}
-use Rattle.fj_pending.specs.declared.held.Held.{Held}
 use Rattle.fj_pending.proofs.Idle.{busy_gone, busy_raised, found_low, none_own}
 use Rattle.fj_pending.proofs.busy.tighten.Goals as goal
 

@@ -1,13 +1,11 @@
 use Rattle.std.proofs.Common.{◌≡◌, not, true, List, [], ◌∷◌, filter, refl, sym, ap, subst, ◌∙◌}
 use Rattle.fj_plain.specs.Telling.{tells_id}
 use Rattle.fj_turns.specs.Run as run
-use Rattle.fj_pending.specs.declared.busy.Busy.{Busy}
 use Rattle.fj_pending.specs.declared.held.Held.{Held}
-use Rattle.fj_pending.specs.declared.pick.Pick.{Pick}
 use Rattle.fj_pending.specs.Plain.{held, entries}
 use Rattle.fj_pending.specs.Busy.{AreBusy, without_told}
 use Rattle.fj_pending.specs.Taking.{without}
-use Rattle.fj_pending.specs.Tied.{IsAscending, IsTied}
+use Rattle.fj_pending.specs.Tied.{IsAscending}
 use Rattle.fj_pending.specs.Waits.{waited_of, picks}
 use Rattle.fj_pending.proofs.Tying.{kept_tied, taken_is, tied_as}
 use Rattle.fj_pending.proofs.Waited.{left_is, when_done}

@@ -1,4 +1,4 @@
-use Rattle.std.proofs.Common.{◌+◌, ◌≤◌, length, ap, sym, subst, IfSome, IfOk, arith}
+use Rattle.std.proofs.Common.{◌≡◌, ◌+◌, ◌≤◌, length, ap, sym, subst, IfSome, IfOk, arith}
 use Rattle.fj_statement.specs.Sound.{IsSound}
 use Rattle.fj_plain.specs.State.{Files}
 use Rattle.fj_units.specs.Files.{files_of}
@@ -13,6 +13,7 @@ use Rattle.fj_runner.proofs.Spending.{from_later, ok_spent}
 use Rattle.fj_world.specs.Giving.{GivesOf}
 use Rattle.fj_runner.specs.Kept.{MayKeep}
 use Rattle.fj_runner.proofs.Kept.{asks_on, follows_by}
+use Rattle.fj_runner.specs.declared.machine.AtHand.{AtHand}
 use Rattle.fj_runner.proofs.machine.Machine.ask_or_go.Goals as goal
 
 pub returns-in-None-clause-fails : goal.returns-in-None-clause-fails
@@ -44,14 +45,15 @@ go-requires-clause-room g c = subst (λ s. HasRoom s.sent.items) (sym c.asked_by
 pub returns-in-Some-clause-spends : goal.returns-in-Some-clause-spends
 returns-in-Some-clause-spends g c = λ jobs spends s counts.
     let m = c.args.self.now in
-    subst (λ o. IfSome o (λ ask. Spent ask (jobs + jobs_from (length m.deck.statements) (m.at + 1)) c.asked_by.new.self)) c.in-Some.is (c.asked_by.ensures.spends jobs spends s counts)
+    subst (λ o. IfSome o (λ ask. Spent ask (jobs + jobs_from (length m.deck.statements) (m.at.place + 1)) c.asked_by.new.self)) c.in-Some.is (c.asked_by.ensures.spends jobs spends s counts)
 
 pub returns-in-None-clause-spends : goal.returns-in-None-clause-spends
 returns-in-None-clause-spends g c = λ jobs spends s counts.
     let m = c.args.self.now in
     let mid = c.asked_by.new.self in
     let statements = length m.deck.statements in
-    let past : m.at + 1 ≤ mid.at = omega (arith, c.in-None.ensures.at) in
-    let spent = subst (λ d. IfOk c.go.result (λ ask. Spent ask (jobs_from (length d.statements) mid.at) c.go.new.self)) c.asked_by.ensures.deck c.go.ensures.spends in
-    let few_jobs = from_later statements (m.at + 1) mid.at past in
-    ok_spent c.go.result c.go.new.self (jobs_from statements mid.at) (jobs + jobs_from statements (m.at + 1)) (omega (arith, few_jobs)) spent
+    let place : mid.at.place ≡ m.at.place + 1 = ap (λ (a : AtHand). a.place) c.in-None.ensures.at in
+    let past : m.at.place + 1 ≤ mid.at.place = omega (arith, place) in
+    let spent = subst (λ d. IfOk c.go.result (λ ask. Spent ask (jobs_from (length d.statements) mid.at.place) c.go.new.self)) c.asked_by.ensures.deck c.go.ensures.spends in
+    let few_jobs = from_later statements (m.at.place + 1) mid.at.place past in
+    ok_spent c.go.result c.go.new.self (jobs_from statements mid.at.place) (jobs + jobs_from statements (m.at.place + 1)) (omega (arith, few_jobs)) spent

@@ -83,9 +83,9 @@ returns-in-Some-clause-spends g c =
     let new = c.begin_next.new.self in
     let it = c.loop-self.invariant in
     let statements = length m.deck.statements in
-    let spent = subst (λ o. IfSome o (λ ask. Spent ask (jobs_from (length half.deck.statements) half.at) new)) c.in-Some.is c.in-Ok.ensures.spends in
-    spent_le c.in-Some.ask new (jobs_from statements half.at) (jobs_from statements m.at) (from_later statements m.at half.at it.at)
-    (subst (λ d. Spent c.in-Some.ask (jobs_from (length d.statements) half.at) new) it.deck spent)
+    let spent = subst (λ o. IfSome o (λ ask. Spent ask (jobs_from (length half.deck.statements) half.at.place) new)) c.in-Some.is c.in-Ok.ensures.spends in
+    spent_le c.in-Some.ask new (jobs_from statements half.at.place) (jobs_from statements m.at.place) (from_later statements m.at.place half.at.place it.at)
+    (subst (λ d. Spent c.in-Some.ask (jobs_from (length d.statements) half.at.place) new) it.deck spent)
 
 pub returns-in-Err-clause-follows : goal.returns-in-Err-clause-follows
 returns-in-Err-clause-follows g c = λ start i.

@@ -7,4 +7,4 @@ invariant-loop-self g l =
     GoesOn g.W.Sink.tells g.W.Sink.taken g.W.Sink.count g.D.Disk.tells g.D.Disk.held g.D.Disk.count g.D.Disk.refusals l.fn.out l.fn.disk l.fn.self l.out l.disk l.self
 
 abbrev pub decreases-loop-self : goal.decreases-loop-self
-decreases-loop-self g l = length l.self.deck.statements - l.self.at
+decreases-loop-self g l = length l.self.deck.statements - l.self.at.place

@@ -1,4 +1,4 @@
-use Rattle.std.proofs.Common.{◌≡◌, ◌∷◌, true, Some, IfOk, inr, refl, sym, ◌∙◌, subst, arith, ◌≤◌, length}
+use Rattle.std.proofs.Common.{◌≡◌, ℕ, ◌∷◌, true, Some, IfOk, inr, refl, sym, ◌∙◌, subst, arith, ◌≤◌, length}
 use Rattle.fj_bay.specs.Plain.{task_of, reply_of}
 use Rattle.fj_plain.specs.State.{Files}
 use Rattle.fj_plain.specs.Statement.{Stated, control_by}
@@ -6,7 +6,7 @@ use Rattle.fj_plain.specs.Transfers.{star_limit}
 use Rattle.fj_desk.specs.Core.{Core}
 use Rattle.fj_desk.specs.Doing.{Doing}
 use Rattle.fj_turns.specs.Run.{Run, Start, Waiting, Acting, Awaiting}
-use Rattle.fj_turns.specs.Turns.{turn}
+use Rattle.fj_turns.specs.Turns.{turn_on}
 use Rattle.fj_pending.specs.Plain.{held}
 use Rattle.fj_acts.specs.Doing.{next_of, then_of}
 use Rattle.fj_acts.specs.Fitting.{IsKept}
@@ -31,7 +31,13 @@ use Rattle.fj_acts.proofs.JobLemmas.{none_when_ended}
 use Rattle.fj_runner.specs.Spending.{Spends, jobs_at}
 use Rattle.fj_runner.proofs.Spending.{ok_spends}
 use Rattle.fj_runner.proofs.Counting.{count_entered, entered_next}
+use Rattle.fj_acts.specs.declared.doing.Given.{Given}
+use Rattle.fj_runner.specs.declared.stage.Stage.{Stage}
+use Rattle.fj_runner.specs.declared.stage.Stage.TheVariants as stage
 use Rattle.fj_runner.proofs.state.State.turn.Goals as goal
+
+going_not_start : {F : Type 0} → (next : Given) (number : ℕ) → (let s : Stage F = stage.Going next number in s) ≡ stage.Start → ⊥
+going_not_start next number e = cc
 
 pub returns-in-Start-clause-turn : goal.returns-in-Start-clause-turn
 returns-in-Start-clause-turn g c = λ tells more stage e.
@@ -44,7 +50,7 @@ returns-in-Start-clause-turn g c = λ tells more stage e.
     let run : Run = run_in variables (st ∷ more) files s stage in
     let core : Core = core_of files s.core in
     let known = subst (λ x. stage_of told bytes variables (st ∷ more) core x ≡ Some stage) (sym c.replace.ensures.value ∙ c.in-Start.is) e in
-    subst (λ x. IfOk c.start.result (λ t. IsTurn told bytes variables (st ∷ more) (files_of (g.D.Disk.held c.start.new.disk)) c.start.new.self t (turn st x run))) (some_same Start stage known)
+    subst (λ x. IfOk c.start.result (λ t. IsTurn told bytes variables (st ∷ more) (files_of (g.D.Disk.held c.start.new.disk)) c.start.new.self t (turn_on st x run))) (some_same Start stage known)
     (c.start.ensures.turn tells more stage)
 
 pub returns-in-Waiting-clause-turn : goal.returns-in-Waiting-clause-turn
@@ -58,7 +64,7 @@ returns-in-Waiting-clause-turn g c = λ tells more stage e.
     let run : Run = run_in variables (st ∷ more) files s stage in
     let core : Core = core_of files s.core in
     let known = subst (λ x. stage_of told bytes variables (st ∷ more) core x ≡ Some stage) (sym c.replace.ensures.value ∙ c.in-Waiting.is) e in
-    subst (λ x. IfOk c.wait.result (λ t. IsTurn told bytes variables (st ∷ more) (files_of (g.D.Disk.held c.wait.new.disk)) c.wait.new.self t (turn st x run))) (some_same Waiting stage known)
+    subst (λ x. IfOk c.wait.result (λ t. IsTurn told bytes variables (st ∷ more) (files_of (g.D.Disk.held c.wait.new.disk)) c.wait.new.self t (turn_on st x run))) (some_same Waiting stage known)
     (c.wait.ensures.turn tells more stage)
 
 pub returns-in-Resuming-clause-turn : goal.returns-in-Resuming-clause-turn
@@ -72,7 +78,7 @@ returns-in-Resuming-clause-turn g c = λ tells more stage e.
     let run : Run = run_in variables (st ∷ more) files s stage in
     let core : Core = core_of files s.core in
     let known = subst (λ x. stage_of told bytes variables (st ∷ more) core x ≡ Some stage) (sym c.replace.ensures.value ∙ c.in-Resuming.is) e in
-    subst (λ x. IfOk c.resume.result (λ t. IsTurn told bytes variables (st ∷ more) (files_of (g.D.Disk.held c.resume.new.disk)) c.resume.new.self t (turn st x run))) (some_same _ stage known)
+    subst (λ x. IfOk c.resume.result (λ t. IsTurn told bytes variables (st ∷ more) (files_of (g.D.Disk.held c.resume.new.disk)) c.resume.new.self t (turn_on st x run))) (some_same _ stage known)
     (c.resume.ensures.turn tells more stage)
 
 pub returns-in-Ok-clause-turn : goal.returns-in-Ok-clause-turn
@@ -87,7 +93,7 @@ returns-in-Ok-clause-turn g c = λ tells more stage e.
     let core : Core = core_of files s.core in
     let known = subst (λ x. stage_of told bytes variables (st ∷ more) core x ≡ Some stage) (sym c.replace.ensures.value ∙ c.in-Going.is) e in
     let does : Doing = next_of variables st core c.in-Going.next c.in-Going.number in
-    subst (λ x. IsTurn told bytes variables (st ∷ more) files c.act.new.self c.act.result (turn st x run)) (some_same (Acting does) stage known)
+    subst (λ x. IsTurn told bytes variables (st ∷ more) files c.act.new.self c.act.result (turn_on st x run)) (some_same (Acting does) stage known)
     (c.act.ensures.turn more files core (held s.core.pending) stage does c.given.ensures.pending (c.in-Ok.ensures.doing files))
 
 pub returns-in-Ok-clause-steps : goal.returns-in-Ok-clause-steps
@@ -110,7 +116,7 @@ returns-in-Awaiting-clause-turn g c = λ tells more stage e.
     let core : Core = core_of files s.core in
     let known = subst (λ x. stage_of told bytes variables (st ∷ more) core x ≡ Some stage) (sym c.replace.ensures.value ∙ c.in-Awaiting.is) e in
     let next = then_of variables st core c.in-Awaiting.then in
-    subst (λ x. IsTurn told bytes variables (st ∷ more) files c.settle.new.self c.settle.result (turn st x run)) (some_same (Awaiting c.in-Awaiting.slot c.in-Awaiting.number next) stage known)
+    subst (λ x. IsTurn told bytes variables (st ∷ more) files c.settle.new.self c.settle.result (turn_on st x run)) (some_same (Awaiting c.in-Awaiting.slot c.in-Awaiting.number next) stage known)
     (c.settle.ensures.turn variables (st ∷ more) files stage (Awaiting c.in-Awaiting.slot c.in-Awaiting.number next) refl)
 
 pub returns-in-Awaiting-clause-steps : goal.returns-in-Awaiting-clause-steps
@@ -131,7 +137,7 @@ returns-in-Ok-doing-clause-turn g c = λ tells more stage e.
     let after : Files = files_of (g.D.Disk.held c.answered-doing.new.disk) in
     let k = run_known (λ task. Acting (then_of variables st core c.in-Answered.then (task, reply_of c.in-Answered.answer))) (task_of told bytes c.in-Answered.job) stage known in
     let does : Doing = then_of variables st core c.in-Answered.then (k.0, reply_of c.in-Answered.answer) in
-    subst (λ x. IsTurn told bytes variables (st ∷ more) after c.act-in-Ok-doing.new.self c.act-in-Ok-doing.result (turn st x run)) k.2
+    subst (λ x. IsTurn told bytes variables (st ∷ more) after c.act-in-Ok-doing.new.self c.act-in-Ok-doing.result (turn_on st x run)) k.2
     (c.act-in-Ok-doing.ensures.turn more after core (held s.core.pending) stage does c.answered-doing.ensures.pending (c.in-Ok-doing.ensures.doing tells k.0 k.1))
 
 pub returns-in-Ok-doing-clause-steps : goal.returns-in-Ok-doing-clause-steps
@@ -229,7 +235,7 @@ returns-in-Err-doing-clause-fails g c = λ tells more stage e.
     let k = run_known (λ task. Acting (then_of variables st core c.in-Answered.then (task, reply_of c.in-Answered.answer))) (task_of told bytes c.in-Answered.job) stage known in
     let does : Doing = then_of variables st core c.in-Answered.then (k.0, reply_of c.in-Answered.answer) in
     fails_at c.args.out.now c.args.out.now s.core c.answered-doing.new.core (given_up c.in-Err-doing.lost) st (Acting does) stage run k.2
-    (fails_quiet c.args.out.now s.core c.answered-doing.new.core (given_up c.in-Err-doing.lost) (output_of (turn st (Acting does) run)) c.answered-doing.ensures.output c.answered-doing.ensures.tells
+    (fails_quiet c.args.out.now s.core c.answered-doing.new.core (given_up c.in-Err-doing.lost) (output_of (turn_on st (Acting does) run)) c.answered-doing.ensures.output c.answered-doing.ensures.tells
     (λ e. c.answered-doing.ensures.sink (cc (c.in-Err-doing.is, e))) (λ fits. record { does = does; is = refl; stands = c.in-Err-doing.ensures.stands tells k.0 k.1 (λ z. fits (cc z)) })
     (λ d. (c.answered-doing.ensures.fault tells k.0 k.1 (cc (c.in-Err-doing.is, d))).rose)
     (λ d. closing_calls st.0.what (c.answered-doing.ensures.called (subst (λ x. may_be_at st.0.what x ≡ true) (sym c.replace.ensures.value ∙ c.in-Answered.is) c.requires.hand) (cc (c.in-Err-doing.is, d)))))
@@ -297,7 +303,8 @@ returns-in-Err-clause-fits g c = λ sound have more kept.
     let s = c.args.self.now in
     λ e. c.given.ensures.fits
     (may_go_on s.sent.items c.in-Going.next c.in-Going.number s.core s.sent_slots s.named
-    (λ slot e. s.own slot c.in-Going.number (subst (λ x. gave slot c.in-Going.number x ≡ true) (sym (sym c.replace.ensures.value ∙ c.in-Going.is)) e)) more) (cc (c.in-Err.is, e))
+    (λ slot e. s.own slot c.in-Going.number (subst (λ x. gave slot c.in-Going.number x ≡ true) (sym (sym c.replace.ensures.value ∙ c.in-Going.is)) e))
+    (more (λ start. going_not_start c.in-Going.next c.in-Going.number (sym (sym c.replace.ensures.value ∙ c.in-Going.is) ∙ start)))) (cc (c.in-Err.is, e))
 
 pub returns-in-Err-doing-clause-fits : goal.returns-in-Err-doing-clause-fits
 returns-in-Err-doing-clause-fits g c = λ sound have more kept.
