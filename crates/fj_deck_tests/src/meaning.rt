@@ -1,7 +1,7 @@
 // What stands of declarations, the items of a statement, and as many variables as there may be. Declarations and statements with what each
 // is answered are in fj_cases.
 use fj_meaning::{Fault, Names, statement};
-use fj_statement::{Control, Operand, Statement, Transfer, UnitRef};
+use fj_statement::{Control, InternalFile, Operand, Statement, Transfer, UnitRef};
 use fj_syntax::{Written, parse_line};
 use fj_value::{Kind, Place, Value};
 use std::alloc::Global;
@@ -198,7 +198,7 @@ fn common_unit(alloc: Global, line: &str) -> Option<UnitRef> {
     unit
 }
 
-/// What the unit of a statement names; of a place, its variable and index.
+/// What the unit of a statement names; of a place, its variable and index. The last two are internal files.
 #[derive(Clone, Copy)]
 enum Named {
     Nothing,
@@ -206,6 +206,8 @@ enum Named {
     Number(u32),
     Held(u32, u32),
     New(u32, u32),
+    Element(u32, u32),
+    Array(u32),
 }
 
 /// What is named so. A text leaves the number of a unit of a place 0.
@@ -223,11 +225,16 @@ fn unit_named(named: Named) -> Option<UnitRef> {
             place: Place { var, index },
             number,
         }),
+        Named::Element(var, index) => Some(UnitRef::Internal(InternalFile::One(Place {
+            var,
+            index,
+        }))),
+        Named::Array(var) => Some(UnitRef::Internal(InternalFile::Whole { var })),
     }
 }
 
 /// Statements with what their units name. Some have no meaning, and one no unit.
-static UNITS: [(&str, Named); 16] = [
+static UNITS: [(&str, Named); 15] = [
     ("WRITE(*,*) I", Named::Star),
     ("OPEN(10)", Named::Number(10)),
     ("OPEN(I)", Named::Held(0, 1)),
@@ -241,14 +248,53 @@ static UNITS: [(&str, Named); 16] = [
     ("OPEN(NEWUNIT=A(2),FILE='X')", Named::New(1, 2)),
     ("OPEN(NEWUNIT=K,STATUS='SCRATCH')", Named::New(3, 1)),
     ("OPEN(NEWUNIT=K,STATUS='OLD')", Named::Nothing),
-    ("WRITE(C,*) I", Named::Nothing),
     ("READ(A,*) I", Named::Nothing),
     ("OPEN(L)", Named::Nothing),
+];
+
+/// Statements with characters as their units.
+static FILES: [(&str, Named); 26] = [
+    ("WRITE(C,*) I", Named::Element(6, 1)),
+    ("WRITE(C,'(I1)') I", Named::Element(6, 1)),
+    ("WRITE(D(2),*) I", Named::Element(7, 2)),
+    ("WRITE(D(1),'(I1)') I", Named::Element(7, 1)),
+    ("WRITE(D,*) A", Named::Array(7)),
+    ("WRITE(FMT='(I1)',UNIT=D) A", Named::Array(7)),
+    ("READ(C,*) I", Named::Element(6, 1)),
+    ("READ(C,'(I2)') I", Named::Element(6, 1)),
+    ("READ(D(1),*) I", Named::Element(7, 1)),
+    ("READ(W(128),'(A)',PAD='NO') C", Named::Element(8, 128)),
+    ("READ(D,*) A", Named::Array(7)),
+    ("READ(UNIT=Z,FMT='(I2)',IOSTAT=K) A", Named::Array(9)),
+    ("WRITE(C) I", Named::Nothing),
+    ("READ(D) A", Named::Nothing),
+    ("WRITE(D,NML=G)", Named::Nothing),
+    ("READ(C,'(I1)',ADVANCE='YES') I", Named::Nothing),
+    ("WRITE(D(2),*,ASYNCHRONOUS='NO') I", Named::Nothing),
+    ("READ(D(1),'(I1)',REC=1) I", Named::Nothing),
+    ("WRITE(D,*,POS=1) I", Named::Nothing),
+    ("WRITE(D(3),*) I", Named::Nothing),
+    ("READ(C(1),*) I", Named::Nothing),
+    ("WRITE(M(1),*) I", Named::Nothing),
+    ("READ(M,*) I", Named::Nothing),
+    ("OPEN(C)", Named::Nothing),
+    ("REWIND D", Named::Nothing),
+    ("INQUIRE(D(1),OPENED=L)", Named::Nothing),
 ];
 
 #[test]
 fn units(rt: HostRuntime) {
     for (line, unit) in UNITS.iter() {
+        assert!(rt;
+            common_unit(rt.alloc(), line) == unit_named(*unit),
+            "{line}"
+        );
+    }
+}
+
+#[test]
+fn internal_files(rt: HostRuntime) {
+    for (line, unit) in FILES.iter() {
         assert!(rt;
             common_unit(rt.alloc(), line) == unit_named(*unit),
             "{line}"

@@ -4,7 +4,7 @@ use crate::rules::{Given, rules};
 use crate::specifiers::{Class, SPECIFIERS, Statement, Value};
 use crate::token::{Shape, Token, amount, closed, cut, last};
 use crate::told::{Look, Part, Told};
-use crate::value::{name, operand, place, single};
+use crate::value::{Seen, name, operand, place, single};
 use crate::words::look_up;
 use fj_meaning::Names;
 use fj_modes::is_file_name;
@@ -34,6 +34,13 @@ pub struct Call<'b, 'a> {
     pub names: Option<&'b Names>,
     pub statement: Statement,
     pub word: Token<'a>,
+}
+
+impl<'b, 'a> Call<'b, 'a> {
+    /// READ or WRITE.
+    fn transfers(&self) -> bool {
+        matches!(self.statement, Statement::Read | Statement::Write)
+    }
 }
 
 /// A statement behind its word.
@@ -91,7 +98,12 @@ fn bare_unit<'a>(call: Call<'_, 'a>, first: &Token<'a>, tokens: &[Token<'a>]) ->
     }
 }
 
-fn unit_told<'a>(token: &Token<'a>) -> Told<'a> {
+fn unit_told<'a>(call: Call<'_, 'a>, token: &Token<'a>) -> Told<'a> {
+    if call.transfers() {
+        return token.told(
+            "a unit is a number from 0 to 2,147,483,647, an integer variable or element, or a character variable, element or array",
+        );
+    }
     token.told("a unit is a number from 0 to 2,147,483,647, or an integer variable or element")
 }
 
@@ -147,8 +159,7 @@ fn argument<'a>(
 
 /// What is told of an argument that stands for no specifier.
 fn unnamed<'a>(call: Call<'_, 'a>, first: &Token<'a>) -> Told<'a> {
-    let transfers = matches!(call.statement, Statement::Read | Statement::Write);
-    if transfers && (first.shape == Shape::Literal || first.is("*")) {
+    if call.transfers() && (first.shape == Shape::Literal || first.is("*")) {
         return first.told(
             "write FMT=%: it may be left out only directly after a unit without UNIT=",
         );
@@ -256,7 +267,7 @@ fn unit<'a>(call: Call<'_, 'a>, near: &Token<'a>, part: &[Token<'a>]) -> Look<'a
     };
     if first.is_word() {
         let seen = place(call.names, near, part)?;
-        return class_fits(Class::Numbers, single(seen, first)?, first);
+        return named_unit(call, seen, first);
     }
     if let [second, ..] = rest {
         return Err(second.told("a unit is a single value: % may not follow it"));
@@ -265,10 +276,26 @@ fn unit<'a>(call: Call<'_, 'a>, near: &Token<'a>, part: &[Token<'a>]) -> Look<'a
         (Some(amount), _) if amount <= MOST => Ok(()),
         (None, Statement::Write) if first.is("*") => Ok(()),
         (None, Statement::Read) if first.is("*") => {
-            Err(first.told("READ has no unit *: decks read only from files that they opened"))
+            Err(first.told(
+                "READ has no unit *: decks read only files that they opened, and internal files",
+            ))
         }
         (None, _) if first.is("*") => Err(first.told("* is a unit of WRITE only")),
-        _ => Err(unit_told(first)),
+        _ => Err(unit_told(call, first)),
+    }
+}
+
+/// A variable or element that is a unit: an integer, or characters of READ and WRITE.
+fn named_unit<'a>(call: Call<'_, 'a>, seen: Seen, token: &Token<'a>) -> Look<'a> {
+    match seen.kind {
+        Some(Kind::Chars(_)) if call.transfers() => Ok(()),
+        Some(Kind::Chars(_)) => Err(token.told(
+            "this is CHARACTER, but INTEGER is needed here: internal files are units of READ and WRITE only",
+        )),
+        Some(Kind::Logical) if call.transfers() => {
+            Err(token.told("this is LOGICAL, but INTEGER or CHARACTER is needed here"))
+        }
+        _ => class_fits(Class::Numbers, single(seen, token)?, token),
     }
 }
 
@@ -394,7 +421,7 @@ fn items<'a>(call: Call<'_, 'a>, behind: &[Token<'a>]) -> Look<'a> {
     let [first, ..] = behind else {
         return Ok(());
     };
-    if !matches!(call.statement, Statement::Read | Statement::Write) {
+    if !call.transfers() {
         return Err(first.told("the statement ends before %"));
     }
     if first.is(",") {

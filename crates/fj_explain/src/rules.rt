@@ -3,7 +3,10 @@
 use crate::call::Call;
 use crate::specifiers::Statement;
 use crate::token::{Shape, Token, cut};
-use crate::told::Look;
+use crate::told::{Look, Part};
+use crate::value::variable;
+use fj_meaning::Names;
+use fj_value::Kind;
 
 /// The arguments of a statement by their specifiers.
 #[derive(Clone, Copy)]
@@ -92,13 +95,14 @@ static MODES: [&str; 5] = ["BLANK", "DECIMAL", "DELIM", "PAD", "SIGN"];
 
 /// What goes together, of a line that is refused for its meaning and else right.
 pub fn rules<'a>(call: Call<'_, 'a>, inside: &[Token<'a>], items: &[Token<'a>]) -> Look<'a> {
-    if call.names.is_none() {
+    let Some(names) = call.names else {
         return Ok(());
-    }
+    };
     let given = Given::of(inside);
     match call.statement {
         Statement::Open => has_file(given),
         Statement::Read | Statement::Write => {
+            internal(names, given)?;
             needs(given)?;
             excludes(given, items)?;
             last(call, given)
@@ -115,6 +119,36 @@ fn has_file<'a>(given: Given<'_, 'a>) -> Look<'a> {
         }
         _ => Ok(()),
     }
+}
+
+/// Specifiers that a transfer on an internal file has not.
+static OUTSIDE: [&str; 7] = ["NML", "ADVANCE", "SIZE", "REC", "POS", "ASYNCHRONOUS", "ID"];
+
+/// An internal file has a format, and neither a position nor a record that stays open nor a transfer that is pending.
+fn internal<'a>(names: &Names, given: Given<'_, 'a>) -> Look<'a> {
+    let Some(unit) = given.unit() else {
+        return Ok(());
+    };
+    if !is_characters(names, &unit) {
+        return Ok(());
+    }
+    for key in OUTSIDE {
+        if let Some(key) = given.token(key.as_bytes()) {
+            let told = key.told("% is CHARACTER, so the unit is an internal file, which has no %=");
+            return Err(told.with(Part::Word(unit.text)).and(Part::Word(key.text)));
+        }
+    }
+    match given.format() {
+        Some(_) => Ok(()),
+        None => Err(unit.told(
+            "% is CHARACTER, so the unit is an internal file, which needs a format: a literal or *",
+        )),
+    }
+}
+
+/// Whether a word is the name of characters.
+fn is_characters(names: &Names, word: &Token<'_>) -> bool {
+    variable(names, word.text).is_some_and(|variable| matches!(variable.kind, Kind::Chars(_)))
 }
 
 /// What is left where nothing else is wrong: a group that is none, or a width of 0 in the format of READ.

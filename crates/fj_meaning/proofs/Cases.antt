@@ -1,5 +1,5 @@
 -- The definitions computed at worked cases.
-use Rattle.std.proofs.Common.{◌≡◌, true, false, [], ◌∷◌, Option, Some, None, refl, codes, pos}
+use Rattle.std.proofs.Common.{◌≡◌, ℕ, true, false, List, [], ◌∷◌, Option, Some, None, refl, codes, pos}
 use Rattle.fj_value.specs.declared.kind.Kind.TheVariants.{Int4, Int8, Logical, Chars}
 use Rattle.fj_value.specs.declared.value.Value.TheVariants as value
 use Rattle.fj_statement.specs.declared.statement.Operand.TheVariants as operand
@@ -11,12 +11,17 @@ use Rattle.fj_meaning.specs.Scope.{empty, named, found, members}
 use Rattle.fj_meaning.specs.Declaring.{with_declaration, with_group, is_within}
 use Rattle.fj_meaning.specs.Operands.{placed, integer_place, number, variable_meant, meant, integer_operand}
 use Rattle.fj_meaning.specs.Calls.{assigned, opened}
-use Rattle.fj_meaning.specs.Units.{unit_meant}
+use Rattle.fj_meaning.specs.Units.{transfer_unit, unit_meant, unit_named}
 use Rattle.fj_modes.specs.declared.specifiers.FileStatus.{FileStatus}
 use Rattle.fj_modes.specs.declared.specifiers.FileStatus.TheVariants.{Old, Scratch}
 use Rattle.fj_modes.specs.declared.specifiers.OpenSpec.{OpenSpec}
-use Rattle.fj_statement.specs.declared.unit.UnitRef.TheVariants.{Held, New}
+use Rattle.fj_statement.specs.declared.unit.UnitRef.TheVariants.{Held, Internal, New}
+use Rattle.fj_statement.specs.declared.unit.InternalFile.TheVariants as file
 use Rattle.fj_syntax.specs.declared.operand.Designator.{Designator}
+use Rattle.fj_syntax.specs.declared.written.Format.{Format}
+use Rattle.fj_syntax.specs.declared.written.Format.TheVariants as format
+use Rattle.fj_syntax.specs.declared.written.Transfer.{Transfer}
+use Rattle.fj_syntax.specs.declared.written.Unit.{Unit}
 use Rattle.fj_syntax.specs.declared.written.Unit.TheVariants as unit
 use Rattle.fj_meaning.specs.Transfer.{are_few}
 
@@ -155,6 +160,114 @@ no_old_file = refl
 pub a_scratch_file : opened two_lines (record { unit = unit.New place_i; what = with_status (Some Scratch); iostat = None }) ≡ Some (statement.OpenUnit (New (record { var = 0; index = 1 }) 0) (with_status (Some Scratch)) None)
 unfolding opened unit_meant integer_place placed found named
 a_scratch_file = refl
+
+-- ---- units of READ and WRITE
+
+-- `CHARACTER(LEN=3) C, D(2)`, and `INTEGER I, A(3)`, and `LOGICAL L(2)`
+abbrev texts : Scope
+texts = record {
+  variables =
+      record { name = codes "C"; kind = Chars 3; count = 0; line = 1 }
+      ∷ record { name = codes "D"; kind = Chars 3; count = 2; line = 1 }
+      ∷ record { name = codes "I"; kind = Int4; count = 0; line = 2 }
+      ∷ record { name = codes "A"; kind = Int4; count = 3; line = 2 }
+      ∷ record { name = codes "L"; kind = Logical; count = 2; line = 3 }
+      ∷ [];
+  groups = [];
+  lines = [];
+}
+
+abbrev designated : List ℕ → Option ℕ → Unit
+designated name number = unit.Place (record { name = name; number = number })
+
+-- a WRITE on this unit, with this format
+abbrev writing : Unit → Option Format → Transfer
+writing u f = record {
+  input = false;
+  unit = u;
+  format = f;
+  group = None;
+  advance = None;
+  asynchronous = None;
+  blank_zero = None;
+  comma = None;
+  delim = None;
+  pad = None;
+  plus = None;
+  rec = None;
+  pos = None;
+  id = None;
+  size = None;
+  iostat = None;
+  items = [];
+}
+
+-- list-directed on `C`, `D(2)` and `D`
+pub a_scalar_file : transfer_unit texts (writing (designated (codes "C") None) (Some format.Asterisk)) ≡ Some (Internal (file.One (record { var = 0; index = 1 })))
+unfolding transfer_unit unit_named variable_meant found named
+a_scalar_file = refl
+
+pub an_element_file : transfer_unit texts (writing (designated (codes "D") (Some 2)) (Some format.Asterisk)) ≡ Some (Internal (file.One (record { var = 1; index = 2 })))
+unfolding transfer_unit unit_named variable_meant found named
+an_element_file = refl
+
+pub an_array_file : transfer_unit texts (writing (designated (codes "D") None) (Some (format.Literal (codes "(I1)")))) ≡ Some (Internal (file.Whole 1))
+unfolding transfer_unit unit_named variable_meant found named
+an_array_file = refl
+
+-- `I`, and none of `A`, `L(1)`, `L`, `D(3)` and `C(1)`
+pub a_number : transfer_unit texts (writing (designated (codes "I") None) None) ≡ Some (Held (record { var = 2; index = 1 }) 0)
+unfolding transfer_unit unit_named variable_meant found named
+a_number = refl
+
+pub no_numbers : transfer_unit texts (writing (designated (codes "A") None) (Some format.Asterisk)) ≡ None
+unfolding transfer_unit unit_named variable_meant found named
+no_numbers = refl
+
+pub no_truth : transfer_unit texts (writing (designated (codes "L") (Some 1)) (Some format.Asterisk)) ≡ None
+unfolding transfer_unit unit_named variable_meant found named
+no_truth = refl
+
+pub no_truths : transfer_unit texts (writing (designated (codes "L") None) (Some format.Asterisk)) ≡ None
+unfolding transfer_unit unit_named variable_meant found named
+no_truths = refl
+
+pub no_third_element : transfer_unit texts (writing (designated (codes "D") (Some 3)) (Some format.Asterisk)) ≡ None
+unfolding transfer_unit unit_named variable_meant found named
+no_third_element = refl
+
+pub no_element_of_scalar : transfer_unit texts (writing (designated (codes "C") (Some 1)) (Some format.Asterisk)) ≡ None
+unfolding transfer_unit unit_named variable_meant found named
+no_element_of_scalar = refl
+
+-- an internal file with no format, and with ADVANCE=, ASYNCHRONOUS=, REC= and POS=
+abbrev on_file : Transfer
+on_file = writing (designated (codes "C") None) (Some format.Asterisk)
+
+pub no_format : transfer_unit texts (writing (designated (codes "C") None) None) ≡ None
+unfolding transfer_unit unit_named variable_meant found named
+no_format = refl
+
+pub no_advance : transfer_unit texts (record on_file { advance = Some true }) ≡ None
+unfolding transfer_unit unit_named variable_meant found named
+no_advance = refl
+
+pub no_asynchronous : transfer_unit texts (record on_file { asynchronous = Some false }) ≡ None
+unfolding transfer_unit unit_named variable_meant found named
+no_asynchronous = refl
+
+pub no_record : transfer_unit texts (record on_file { rec = Some (written.Number Unsigned 1) }) ≡ None
+unfolding transfer_unit unit_named variable_meant found named
+no_record = refl
+
+pub no_position : transfer_unit texts (record on_file { pos = Some (written.Number Unsigned 1) }) ≡ None
+unfolding transfer_unit unit_named variable_meant found named
+no_position = refl
+
+-- any other statement
+pub no_file_elsewhere : unit_meant texts (designated (codes "C") None) ≡ None
+unfolding unit_meant integer_place placed found named
+no_file_elsewhere = refl
 
 -- two million elements
 pub many_elements : are_few (record { operand = operand.Whole 0; kind = Logical; count = 2000000 } ∷ []) ≡ false

@@ -24,7 +24,7 @@ use Rattle.fj_meaning.specs.Meaning.{IsFormatOf, literal_of}
 use Rattle.fj_meaning.specs.Operands.{integer_operand, integer_place, meant, number, number_kind, signed}
 use Rattle.fj_meaning.specs.Scope.{members}
 use Rattle.fj_meaning.specs.Sound.{HasOneForm, KeepsRules, RulesAreDecided}
-use Rattle.fj_meaning.specs.Units.{unit_meant}
+use Rattle.fj_meaning.specs.Units.{unit_meant, unit_named}
 use Rattle.fj_meaning.specs.Transfer.{◌implies◌, assembled, can_be_read, changes_some, control_of, given, goes_together, is_allowed, is_explicit, is_list_directed, is_place, is_star, is_true, stands_alone}
 use Rattle.fj_syntax.proofs.Holding.{bound, some_is}
 use Rattle.fj_meaning.proofs.SoundLemmas.{given_same, no_is}
@@ -126,8 +126,8 @@ read_from : (g vars : Option (List ℕ)) (f : Option Format) (items : Option (Li
 read_from g vars f None os is one places e = places
 read_from g vars f (Some items) os is one places e = all_true (list_all is_place os) (not (has_width_zero items)) places (width_from g vars f items is one e)
 
-star_from : (s : Scope) (u : Unit) (named : UnitRef) → unit_meant s u ≡ Some named → is_star u ≡ true → named ≡ Star
-unfolding unit_meant
+star_from : (s : Scope) (u : Unit) (named : UnitRef) → unit_named s u ≡ Some named → is_star u ≡ true → named ≡ Star
+unfolding unit_meant unit_named
 star_from s unit.Star named is h = sym (some_is Star named is)
 star_from s u named is h = cc
 

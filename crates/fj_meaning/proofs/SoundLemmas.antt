@@ -5,13 +5,14 @@ use Rattle.std.specs.Prelude.{IsSome, IfSome, slice_get}
 use Rattle.std.proofs.lemmas.Bool.{and_parts, leb-true}
 use Rattle.fj_value.proofs.DigitLaws.{fits_bits-fits}
 use Rattle.fj_value.specs.declared.kind.Kind.{Kind}
-use Rattle.fj_value.specs.declared.kind.Kind.TheVariants.{Int4, Int8}
+use Rattle.fj_value.specs.declared.kind.Kind.TheVariants.{Int4, Int8, Logical, Chars}
 use Rattle.fj_value.specs.declared.place.Place.{Place}
 use Rattle.fj_value.specs.Kind.{fits_bits, integer_bits, IsOfKind}
 use Rattle.fj_statement.specs.declared.deck.Variable.{Variable}
 use Rattle.fj_statement.specs.declared.statement.Operand.{Operand}
 use Rattle.fj_statement.specs.declared.statement.Operand.TheVariants as operand
-use Rattle.fj_statement.specs.Sound.{IsPlace, IsOperand, IsInteger, IsIntegerPlace, IsIntegerOperand, IsUnit, IsSubject}
+use Rattle.fj_statement.specs.Sound.{IsPlace, IsOperand, IsInteger, IsIntegerPlace, IsIntegerOperand, IsFile, IsUnit, IsSubject}
+use Rattle.fj_statement.specs.Units.{internal_of}
 use Rattle.fj_syntax.specs.declared.operand.Designator.{Designator}
 use Rattle.fj_syntax.specs.declared.operand.Operand as written
 use Rattle.fj_syntax.specs.declared.operand.Operand.TheVariants as written_as
@@ -21,6 +22,7 @@ use Rattle.fj_syntax.specs.declared.written.Unit as unit
 use Rattle.fj_syntax.specs.declared.written.Unit.TheVariants as unit_as
 use Rattle.fj_statement.specs.declared.unit.Subject.{Subject}
 use Rattle.fj_statement.specs.declared.unit.UnitRef.{UnitRef}
+use Rattle.fj_statement.specs.declared.unit.UnitRef.TheVariants as named_as
 use Rattle.fj_meaning.specs.declared.designator.Placed.{Placed}
 use Rattle.fj_meaning.specs.declared.operand.Meant.{Meant}
 use Rattle.fj_meaning.specs.declared.scope.Found.{Found}
@@ -28,7 +30,7 @@ use Rattle.fj_meaning.specs.declared.scope.Named.{Named}
 use Rattle.fj_meaning.specs.declared.scope.Named.TheVariants as stands_for
 use Rattle.fj_meaning.specs.declared.scope.Scope.{Scope}
 use Rattle.fj_meaning.specs.Giving.{optional}
-use Rattle.fj_meaning.specs.Units.{subject_meant, unit_meant}
+use Rattle.fj_meaning.specs.Units.{held, internal, subject_meant, unit_in, unit_meant, unit_named}
 use Rattle.fj_meaning.specs.Operands.{index_in, placed, is_integer, integer_place, signed, number_kind, number, element, whole, part, variable_meant, meant, is_whole, integer_operand}
 use Rattle.fj_syntax.proofs.Holding.{bound, passed, some_is}
 use Rattle.fj_meaning.specs.Scope.{found, variable_at, named}
@@ -160,6 +162,68 @@ unfolding variable_meant
 variable_is s d m h =
     let f = bound (found s d.name) _ m h in
     part_is s f.0 d.number m (found_is s d.name f.0 f.1) f.2
+
+-- ---- units of READ and WRITE
+
+-- what a variable names as a unit
+abbrev pub IsNamed : Scope → UnitRef → Type 0
+IsNamed s (named_as.Held place n) = IsIntegerPlace s.variables place
+IsNamed s (named_as.Internal file) = IsFile s.variables file
+IsNamed s u = ⊥
+
+held_is : (s : Scope) (kind : Kind) (count : ℕ) (o : Operand) (u : UnitRef) → IsOperand s.variables o kind count → IsInteger kind → held o ≡ Some u → IsNamed s u
+held_is s kind count (operand.One place) u is integer h = subst (IsNamed s) (some_is _ u h) (kind, is.0, integer)
+held_is s kind count (operand.Literal k value) u is integer h = cc
+held_is s kind count (operand.Whole var) u is integer h = cc
+
+internal_is : (s : Scope) (size count : ℕ) (o : Operand) (u : UnitRef) → IsOperand s.variables o (Chars size) count → internal o ≡ Some u → IsNamed s u
+internal_is s size count (operand.One place) u is h = subst (IsNamed s) (some_is _ u h) (size, is.0)
+internal_is s size count (operand.Whole var) u is h = subst (IsNamed s) (some_is _ u h) (size, count, is)
+internal_is s size count (operand.Literal k value) u is h = cc
+
+unit_in_is : (s : Scope) (kind : Kind) (count : ℕ) (o : Operand) (u : UnitRef) → IsOperand s.variables o kind count → unit_in kind o ≡ Some u → IsNamed s u
+unit_in_is s Int4 count o u is h = held_is s Int4 count o u is refl h
+unit_in_is s Int8 count o u is h = held_is s Int8 count o u is refl h
+unit_in_is s Logical count o u is h = cc
+unit_in_is s (Chars size) count o u is h = internal_is s size count o u is h
+
+pub variable_names : (s : Scope) (d : Designator) (u : UnitRef) → unit_named s (unit_as.Place d) ≡ Some u → IsNamed s u
+unfolding unit_named
+variable_names s d u h =
+    let m = bound (variable_meant s d) (λ m. unit_in m.kind m.operand) u h in
+    unit_in_is s m.0.kind m.0.count m.0.operand u (variable_is s d m.0 m.1) m.2
+
+-- the unit of a transfer, and its file if it is internal
+pub record UnitIs (s : Scope) (u : UnitRef) : Type 0 where
+  pub unit : IsUnit s.variables u
+  pub file : IfSome (internal_of u) (IsFile s.variables)
+
+named_unit : (s : Scope) (u : UnitRef) → IsNamed s u → UnitIs s u
+named_unit s (named_as.Held place n) is = record { unit = (is, tt); file = tt }
+named_unit s (named_as.Internal file) is = record { unit = (tt, tt); file = is }
+named_unit s named_as.Star is = absurd is
+named_unit s (named_as.Number n) is = absurd is
+named_unit s (named_as.New place n) is = absurd is
+
+-- one that is named in every statement
+meant_unit : (s : Scope) (w : unit.Unit) (u : UnitRef) → unit_meant s w ≡ Some u → internal_of u ≡ None
+unfolding unit_meant
+meant_unit s unit_as.Star u h = ap internal_of (sym (some_is _ u h))
+meant_unit s (unit_as.Number n) u h = ap internal_of (sym (some_is _ u h))
+meant_unit s (unit_as.Place d) u h = let p = bound (integer_place s d) _ u h in ap internal_of (sym (some_is _ u p.2))
+meant_unit s (unit_as.New d) u h = let p = bound (integer_place s d) _ u h in ap internal_of (sym (some_is _ u p.2))
+
+other_unit : (s : Scope) (w : unit.Unit) (u : UnitRef) → unit_meant s w ≡ Some u → UnitIs s u
+other_unit s w u h = record { unit = unit_is s w u h; file = subst (λ f. IfSome f (IsFile s.variables)) (sym (meant_unit s w u h)) tt }
+
+pub named_is : (s : Scope) (w : unit.Unit) (u : UnitRef) → unit_named s w ≡ Some u → UnitIs s u
+unfolding unit_named
+named_is s (unit_as.Place d) u h = named_unit s u (variable_names s d u h)
+named_is s unit_as.Star u h = other_unit s unit_as.Star u h
+named_is s (unit_as.Number n) u h = other_unit s (unit_as.Number n) u h
+named_is s (unit_as.New d) u h = other_unit s (unit_as.New d) u h
+
+-- ---- operands of any form
 
 pub meant_is : (s : Scope) (o : written.Operand) (m : Meant) → meant s o ≡ Some m → MeantIs s m
 unfolding meant

@@ -13,6 +13,8 @@ use Rattle.fj_modes.specs.declared.asked.Question.TheVariants as question
 use Rattle.fj_modes.specs.declared.asked.Wanted.{Wanted}
 use Rattle.fj_statement.specs.declared.unit.UnitRef.{UnitRef}
 use Rattle.fj_statement.specs.declared.unit.UnitRef.TheVariants.{Star}
+use Rattle.fj_statement.specs.declared.unit.UnitRef.TheVariants as named_as
+use Rattle.fj_statement.specs.Units.{internal_of}
 use Rattle.fj_syntax.specs.declared.written.Unit.{Unit}
 use Rattle.fj_syntax.specs.declared.written.Unit.TheVariants as unit_as
 use Rattle.fj_format.specs.declared.item.FormatItem.{FormatItem}
@@ -22,7 +24,7 @@ use Rattle.fj_statement.specs.declared.statement.Operand as operands
 use Rattle.fj_statement.specs.declared.statement.Operand.TheVariants.{Literal, One, Whole}
 use Rattle.fj_statement.specs.declared.statement.Statement.{Statement}
 use Rattle.fj_statement.specs.declared.statement.Statement.TheVariants as statement
-use Rattle.fj_statement.specs.Sound.{bytes_of, IsIntegerPlace, IsIntegerOperand, IsVariable, Takes, TakesLiteral, Fits, IsAnswerKind, IsAsked, IsExplicit, IsFormatted, MayHaveRecord, HasNoZeroWidth, AreMembers, members_of, HasNoItems, AreItems, IsList, IsAllowed, IsSoundStatement}
+use Rattle.fj_statement.specs.Sound.{bytes_of, IsIntegerPlace, IsIntegerOperand, IsVariable, Takes, TakesLiteral, Fits, IsAnswerKind, IsAsked, IsExplicit, IsFormatted, MayHaveRecord, IsListedOrExplicit, HasNoZeroWidth, AreMembers, members_of, HasNoItems, AreItems, IsList, IsGiven, IsAllowed, IsSoundStatement}
 use Rattle.fj_statement.proofs.Naming.{members_few}
 use Rattle.fj_syntax.specs.declared.operand.Designator.{Designator}
 use Rattle.fj_syntax.specs.declared.operand.Operand.{Operand}
@@ -42,7 +44,7 @@ use Rattle.fj_meaning.specs.declared.scope.Named.{Named}
 use Rattle.fj_meaning.specs.declared.scope.Named.TheVariants as stands_for
 use Rattle.fj_meaning.specs.declared.scope.Scope.{Scope}
 use Rattle.fj_meaning.specs.Giving.{optional, each}
-use Rattle.fj_meaning.specs.Units.{has_file, subject_meant, unit_meant}
+use Rattle.fj_meaning.specs.Units.{has_file, subject_meant, suits_unit, transfer_unit, unit_meant, unit_named}
 use Rattle.fj_meaning.specs.Operands.{is_whole, placed, integer_place, element, whole, part, variable_meant, meant, integer_operand}
 use Rattle.fj_meaning.specs.Calls.{takes, takes_literal, goes_from, goes_to, assigned, opened, closed, awaited, moved, is_logical, is_characters, suits, wanted, inquired}
 use Rattle.fj_meaning.specs.Transfer.{◌implies◌, given, is_true, is_list_directed, is_explicit, is_place, is_star, changes_some, goes_together, stands_alone, can_be_read, is_allowed, size_of, elements, bytes, are_few, parts, parts_with, control_of, assembled, transferred, is_short, of_items, fits}
@@ -50,7 +52,7 @@ use Rattle.fj_meaning.specs.Meaning.{literal_of, IsFormatOf, meaning, is_within_
 use Rattle.fj_meaning.specs.Scope.{found, members, group_at, named}
 use Rattle.fj_meaning.specs.Sound.{IsSoundScope, MeaningIsSound}
 use Rattle.fj_syntax.proofs.Holding.{bound, passed, some_is}
-use Rattle.fj_meaning.proofs.SoundLemmas.{unit_is, subject_is, no_is, is_there, placed_is, integer_place_is, variable_is, meant_is, integer_operand_is, given_is, given_same}
+use Rattle.fj_meaning.proofs.SoundLemmas.{unit_is, named_is, variable_names, IsNamed, subject_is, no_is, is_there, placed_is, integer_place_is, variable_is, meant_is, integer_operand_is, given_is, given_same}
 
 -- ---- assignments
 
@@ -233,6 +235,10 @@ none_is : {A : Type 0} (o : Option A) → is_some o ≡ false → o ≡ None
 none_is None h = refl
 none_is (Some x) h = cc
 
+none_of : (a b : Bool) → (a || b) ≡ false → (a ≡ false) × (b ≡ false)
+none_of true b h = cc
+none_of false b h = (refl, h)
+
 neither : (a b : Bool) → not (a || b) ≡ true → (a ≡ false) × (b ≡ false)
 neither true b h = cc
 neither false b h = (refl, no_is b h)
@@ -295,12 +301,42 @@ group_is s os ms None vars f (Some items) h rule = tt
 group_is s os ms None vars (Some f) None h rule = tt
 group_is s os ms None vars None None h rule = tt
 
-star_is : (s : Scope) (u : Unit) (named : UnitRef) → unit_meant s u ≡ Some named → named ≡ Star → is_star u ≡ true
-unfolding unit_meant
+star_is : (s : Scope) (u : Unit) (named : UnitRef) → unit_named s u ≡ Some named → named ≡ Star → is_star u ≡ true
+unfolding unit_meant unit_named
 star_is s unit_as.Star named h e = refl
 star_is s (unit_as.Number n) named h e = cc
-star_is s (unit_as.Place d) named h e = let p = bound (integer_place s d) _ named h in let held = p.2 in cc
+star_is s (unit_as.Place d) named h e = absurd (subst (IsNamed s) e (variable_names s d named h))
 star_is s (unit_as.New d) named h e = let p = bound (integer_place s d) _ named h in let new = p.2 in cc
+
+-- ---- internal files
+
+-- where a format is given, no group is
+form_is : (g : Option (List ℕ)) (vars : Option (List ℕ)) (f : Option Format) (items : Option (List FormatItem)) (few : Bool) → (given g implies (not (given f) && few)) ≡ true → given f ≡ true
+    → IsListedOrExplicit (control_of g vars f items)
+form_is g vars None items few rule e = cc
+form_is (Some name) vars (Some f) items few rule e = cc
+form_is None vars (Some f) None few rule e = tt
+form_is None vars (Some f) (Some items) few rule e = tt
+
+-- what goes with an internal file, as it is written
+record SuitsFile (t : Transfer) : Type 0 where
+  format : given t.format ≡ true
+  advance : given t.advance ≡ false
+  asynchronous : given t.asynchronous ≡ false
+  rec : given t.rec ≡ false
+  pos : given t.pos ≡ false
+
+suits_file : (u : UnitRef) (t : Transfer) → IsGiven (internal_of u) → suits_unit u t ≡ true → SuitsFile t
+suits_file (named_as.Internal f) t h e =
+    let form = and_parts (given t.format) _ e in
+    let advance = neither (given t.advance) _ form.1 in
+    let at_once = none_of (given t.asynchronous) _ advance.1 in
+    let place = none_of (given t.rec) (given t.pos) at_once.1 in
+    record { format = form.0; advance = advance.0; asynchronous = at_once.0; rec = place.0; pos = place.1 }
+suits_file named_as.Star t h e = cc
+suits_file (named_as.Number n) t h e = cc
+suits_file (named_as.Held place n) t h e = cc
+suits_file (named_as.New place n) t h e = cc
 
 all_at : {A : Type 0} (P : A → Type 0) (xs : List A) (n : ℕ) (x : A) → All P xs → slice_get xs n ≡ Some x → P x
 all_at P xs n x all h = subst P (get_or_from_slice_get xs n x x h) (all n x (slice_get_within xs n x h))
@@ -336,7 +372,8 @@ has_members s sound None vars None None h = no_members s.variables
 
 -- what a transfer is made of
 pub record IsMade (s : Scope) (t : Transfer) (p : Parts) (ms : List Meant) : Type 0 where
-  pub unit : unit_meant s t.unit ≡ Some p.unit
+  pub unit : unit_named s t.unit ≡ Some p.unit
+  pub suited : suits_unit p.unit t ≡ true
   pub group : optional (members s) t.group ≡ Some p.group
   pub each_is : each (meant s) t.items ≡ Some ms
   pub items : map what ms ≡ p.items
@@ -347,10 +384,13 @@ pub record IsMade (s : Scope) (t : Transfer) (p : Parts) (ms : List Meant) : Typ
   pub iostat : optional (integer_place s) t.iostat ≡ Some p.iostat
 
 pub made_is : (s : Scope) (t : Transfer) (p : Parts) → parts s t ≡ Some p → (ms : List Meant) × IsMade s t p ms
-unfolding parts parts_with
+unfolding parts parts_with transfer_unit
 made_is s t p h =
     let ms = bound (each (meant s) t.items) _ p h in
-    let u = bound (unit_meant s t.unit) _ p ms.2 in
+    let u = bound (transfer_unit s t) _ p ms.2 in
+    let named = bound (unit_named s t.unit) _ u.0 u.1 in
+    let suited = passed (suits_unit named.0 t) (Some named.0) u.0 named.2 in
+    let same = some_is named.0 u.0 suited.1 in
     let g = bound (optional (members s) t.group) _ p u.2 in
     let rec = bound (optional (integer_operand s) t.rec) _ p g.2 in
     let pos = bound (optional (integer_operand s) t.pos) _ p rec.2 in
@@ -360,7 +400,8 @@ made_is s t p h =
     let made : record { unit = u.0; group = g.0; items = map what ms.0; rec = rec.0; pos = pos.0; id = id.0; size = size.0; iostat = told.0 } ≡ p = some_is _ p told.2 in (
       ms.0,
       subst (λ q. IsMade s t q ms.0) made (record {
-        unit = u.1;
+        unit = subst (λ x. unit_named s t.unit ≡ Some x) same named.1;
+        suited = subst (λ x. suits_unit x t ≡ true) same suited.0;
         group = g.1;
         each_is = ms.1;
         items = refl;
@@ -391,6 +432,7 @@ allowed_is s items t p ms made is rules =
     let mode = λ (x : changes_some t ≡ true). formatted_is g p.group f items is same_group (implied (changes_some t) (given f || given g) advance_rule.1 x) in
     let alone = λ (h : IsSome p.rec). neither (given t.pos) (is_list_directed f || given g) (implied (given t.rec) _ rec_rule.0 (sym same_rec ∙ some_true p.rec h)) in
     let star = λ (h : p.unit ≡ Star). neither (given t.rec) (given t.pos) (implied (is_star t.unit) _ group_rule.1 (star_is s t.unit p.unit made.unit h)) in
+    let file = λ (h : IsGiven (internal_of p.unit)). suits_file p.unit t h made.suited in
     let read = λ (h : t.input ≡ true). implied t.input (can_be_read items t.items) b.1 h in
     record {
       id_needs_asynchronous = λ h. true_is t.asynchronous (implied (given t.id) _ id_rule.0 (sym (given_same (integer_place s) t.id p.id made.id) ∙ some_true p.id h));
@@ -406,6 +448,13 @@ allowed_is s items t p ms made is rules =
       group_excludes_items = subst (λ l. HasNoItems (control_of g p.group f items) l) made.items (group_is s t.items ms g p.group f items made.each_is group_rule.0);
       star_has_no_record = λ h. none_is p.rec (same_rec ∙ (star h).0);
       star_has_no_position = λ h. none_is p.pos (same_pos ∙ (star h).1);
+      internal = λ h. record {
+        has_format = form_is g p.group f items (eqb (length t.items) 0) group_rule.0 (file h).format;
+        has_no_record = none_is p.rec (same_rec ∙ (file h).rec);
+        has_no_position = none_is p.pos (same_pos ∙ (file h).pos);
+        has_no_advance = none_is t.advance (file h).advance;
+        is_at_once = none_is t.asynchronous (file h).asynchronous;
+      };
       read_has_places = λ h. subst (All IsVariable) made.items (are_variables s t.items ms made.each_is (places_read items t.items (read h)));
       read_has_widths = λ h. width_is g p.group f items t.items (read h);
     } where
@@ -417,10 +466,6 @@ allowed_is s items t p ms made is rules =
       later true b h = refl
       later false b h = h
 
-      none_of : (a b : Bool) → (a || b) ≡ false → (a ≡ false) × (b ≡ false)
-      none_of true b h = cc
-      none_of false b h = (refl, h)
-
 transferred_is : (s : Scope) → IsSoundScope s → (items : Option (List FormatItem)) (t : Transfer) (m : Statement) → IsFormatOf (literal_of t.format) items → transferred s items t ≡ Some m → fits s items t ≡ true
     → IsSoundStatement s.variables m
 unfolding transferred fits
@@ -428,9 +473,11 @@ transferred_is s sound items t m is h limits =
     let p = bound (parts s t) _ m h in
     let r = passed (is_allowed items t) (Some (statement.Transfer (assembled items t p.0))) m p.2 in
     let made = made_is s t p.0 p.1 in
+    let unit = named_is s t.unit p.0.unit made.1.unit in
     let few : are_few made.0 ≡ true = sym (ap of_items made.1.each_is) ∙ (and_parts (is_short items) (of_items (each (meant s) t.items)) limits).1 in
     subst (IsSoundStatement s.variables) (some_is (statement.Transfer (assembled items t p.0)) m r.1) (record {
-      unit_is = unit_is s t.unit p.0.unit made.1.unit;
+      unit_is = unit.unit;
+      file_is = unit.file;
       allowed = allowed_is s items t p.0 made.0 made.1 is r.0;
       items = subst (IsList s.variables) made.1.items (list_is s t.items made.0 made.1.each_is few);
       members = has_members s sound t.group p.0.group t.format items made.1.group;

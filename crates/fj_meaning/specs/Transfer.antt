@@ -24,7 +24,7 @@ use Rattle.fj_meaning.specs.declared.scope.Scope.{Scope}
 use Rattle.fj_meaning.specs.Giving.{◌>>=◌, optional, each}
 use Rattle.fj_meaning.specs.Operands.{integer_place, meant, integer_operand}
 use Rattle.fj_meaning.specs.Scope.{members}
-use Rattle.fj_meaning.specs.Units.{unit_meant}
+use Rattle.fj_meaning.specs.Units.{transfer_unit}
 
 -- ---- the rules on specifiers and items
 
@@ -108,7 +108,7 @@ are_few ms = nat_le (elements ms) 1000000 && nat_le (bytes ms) 16777216
 -- with these items
 unfoldable pub parts_with : Scope → written.Transfer → List Operand → Option Parts
 parts_with s t items = do
-  u ← unit_meant s t.unit
+  u ← transfer_unit s t
   g ← optional (members s) t.group
   rec ← optional (integer_operand s) t.rec
   pos ← optional (integer_operand s) t.pos

@@ -13,7 +13,7 @@ use crate::items::choose;
 use crate::limits::narrow;
 use crate::names::Names;
 use crate::rules::is_allowed;
-use crate::unit::unit_meant;
+use crate::unit::transfer_unit;
 use fj_format::{Format, FormatFault, FormatItems, parse_items};
 use fj_statement::{Control, Operand, Operands, Statement, Transfer, UnitRef, Vars};
 use fj_value::{Items, Place, Text};
@@ -87,7 +87,7 @@ fn parts_with(
 ) -> Result<Parts, Fault>
     ensures { Gives result (parts_with names.now transfer.now items) }
 {
-    let unit = unit_meant(names, &transfer.unit)?;
+    let unit = transfer_unit(names, transfer)?;
     let group = optional_group(names, &transfer.group)?;
     let rec = optional_operand(names, &transfer.rec)?;
     let pos = optional_operand(names, &transfer.pos)?;

@@ -10,11 +10,13 @@ use Rattle.fj_value.specs.Kind.{IsOfKind, integer_bits, text_length}
 use Rattle.fj_modes.specs.declared.asked.Question.{Question}
 use Rattle.fj_modes.specs.declared.asked.Question.TheVariants as question
 use Rattle.fj_modes.specs.declared.asked.Wanted.{Wanted}
+use Rattle.fj_statement.specs.declared.unit.InternalFile.{InternalFile}
+use Rattle.fj_statement.specs.declared.unit.InternalFile.TheVariants as file
 use Rattle.fj_statement.specs.declared.unit.UnitRef.{UnitRef}
 use Rattle.fj_statement.specs.declared.unit.UnitRef.TheVariants.{Star}
 use Rattle.fj_statement.specs.declared.unit.Subject.{Subject}
 use Rattle.fj_statement.specs.declared.unit.Subject.TheVariants as subject
-use Rattle.fj_statement.specs.Units.{place_held, place_new}
+use Rattle.fj_statement.specs.Units.{internal_of, place_held, place_new}
 use Rattle.fj_format.specs.Unfolding.{has_width_zero}
 use Rattle.fj_statement.specs.declared.deck.Variable.{Variable}
 use Rattle.fj_statement.specs.declared.deck.Lined.{Lined}
@@ -148,6 +150,12 @@ MayHaveRecord control.Unformatted = Unit {0}
 MayHaveRecord (control.Explicit items) = Unit {0}
 MayHaveRecord c = ⊥
 
+-- of an internal file
+abbrev pub IsListedOrExplicit : Control → Type 0
+IsListedOrExplicit (control.Explicit items) = Unit {0}
+IsListedOrExplicit control.Listed = Unit {0}
+IsListedOrExplicit c = ⊥
+
 abbrev pub HasNoZeroWidth : Control → Type 0
 HasNoZeroWidth (control.Explicit items) = has_width_zero items ≡ false
 HasNoZeroWidth c = Unit {0}
@@ -183,6 +191,14 @@ pub record IsList (vs : Variables) (items : List Operand) : Type 0 where
   pub elements : sum_by (λ s. s.1) shapes ≤ 1000000
   pub bytes : sum_by (λ s. s.1 * bytes_of s.0) shapes ≤ 16777216
 
+-- an internal file has a format, and neither a position nor a record that stays open nor a transfer that is pending (9.5.1)
+pub record IsInternal (t : Transfer) : Type 0 where
+  pub has_format : IsListedOrExplicit t.control
+  pub has_no_record : t.rec ≡ None
+  pub has_no_position : t.pos ≡ None
+  pub has_no_advance : t.advance ≡ None
+  pub is_at_once : t.asynchronous ≡ None
+
 -- the rules on specifiers that go together (9.5.1)
 pub record IsAllowed (t : Transfer) : Type 0 where
   pub id_needs_asynchronous : IsGiven t.id → t.asynchronous ≡ Some true
@@ -198,8 +214,14 @@ pub record IsAllowed (t : Transfer) : Type 0 where
   pub group_excludes_items : HasNoItems t.control t.items
   pub star_has_no_record : t.unit ≡ Star → t.rec ≡ None
   pub star_has_no_position : t.unit ≡ Star → t.pos ≡ None
+  pub internal : IsGiven (internal_of t.unit) → IsInternal t
   pub read_has_places : t.input ≡ true → All IsVariable t.items
   pub read_has_widths : t.input ≡ true → HasNoZeroWidth t.control
+
+-- the elements of an internal file are characters (9.3.1)
+abbrev pub IsFile : Variables → InternalFile → Type 0
+IsFile vs (file.One place) = (size : ℕ) × IsPlace vs place (Chars size)
+IsFile vs (file.Whole var) = (size count : ℕ) × IsArray vs var (Chars size) count
 
 -- a unit of a place, and NEWUNIT=, name an integer
 abbrev pub IsUnit : Variables → UnitRef → Type 0
@@ -211,6 +233,7 @@ IsSubject vs (subject.File name) = Unit {0}
 
 pub record IsTransfer (vs : Variables) (t : Transfer) : Type 0 where
   pub unit_is : IsUnit vs t.unit
+  pub file_is : IfSome (internal_of t.unit) (IsFile vs)
   pub allowed : IsAllowed t
   pub items : IsList vs t.items
   pub members : AreMembers vs (members_of t.control)

@@ -4,6 +4,7 @@ use Rattle.std.specs.Option.{option_map_or}
 use Rattle.fj_value.specs.declared.place.Place.{Place}
 use Rattle.fj_value.specs.declared.value.Value.{Value}
 use Rattle.fj_value.specs.declared.value.Value.TheVariants as value
+use Rattle.fj_statement.specs.declared.unit.InternalFile.{InternalFile}
 use Rattle.fj_statement.specs.declared.unit.UnitRef.{UnitRef}
 use Rattle.fj_statement.specs.declared.unit.UnitRef.TheVariants as unit
 use Rattle.fj_statement.specs.declared.unit.Subject.{Subject}
@@ -34,12 +35,13 @@ new_code code = code - 1
 
 -- ---- what a unit names
 
--- the number of a unit; `*` has none
+-- the number of a unit; `*` and an internal file have none
 abbrev pub number_of : UnitRef → Option ℕ
 number_of unit.Star = None
 number_of (unit.Number n) = Some n
 number_of (unit.Held place n) = Some n
 number_of (unit.New place n) = Some n
+number_of (unit.Internal file) = None
 
 -- the place whose value is its number
 abbrev pub place_held : UnitRef → Option Place
@@ -51,12 +53,18 @@ abbrev pub place_new : UnitRef → Option Place
 place_new (unit.New place n) = Some place
 place_new _ = None
 
+-- the internal file that it is
+abbrev pub internal_of : UnitRef → Option InternalFile
+internal_of (unit.Internal file) = Some file
+internal_of _ = None
+
 -- the number is not one from 0 to 2,147,483,647, and NEWUNIT= does not give it
 abbrev pub is_outside : UnitRef → Bool
 is_outside unit.Star = false
 is_outside (unit.Number n) = not (nat_lt n 2147483648)
 is_outside (unit.Held place n) = not (nat_lt n 2147483648)
 is_outside (unit.New place n) = false
+is_outside (unit.Internal file) = false
 
 -- ---- the number that a unit has when its statement begins
 

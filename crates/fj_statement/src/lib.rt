@@ -12,5 +12,6 @@ pub use laws::named_is_there;
 pub use reason::Reason;
 pub use statement::{Control, Operand, Operands, Statement, Transfer, Vars};
 pub use unit::{
-    FIRST_NEW_UNIT, LARGEST_UNIT, Subject, UnitRef, next_new_unit, unit_code, unit_number,
+    FIRST_NEW_UNIT, InternalFile, LARGEST_UNIT, Subject, UnitRef, next_new_unit, unit_code,
+    unit_number,
 };

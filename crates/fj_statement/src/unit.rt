@@ -1,9 +1,18 @@
 // Units as statements name them, and what INQUIRE asks about.
 ghost use Rattle.std.specs.Prelude.{◌≡◌};
-ghost use Rattle.fj_statement.specs.Units.{held_number, is_outside, new_code, number_of, number_to_code, number_from_code, numbered, place_held, place_new};
+ghost use Rattle.fj_statement.specs.Units.{held_number, internal_of, is_outside, new_code, number_of, number_to_code, number_from_code, numbered, place_held, place_new};
 
 use fj_modes::FileName;
 use fj_value::Place;
+
+/// An internal file: its records are the elements of characters (ISO/IEC 1539-1:2004, 9.3).
+#[derive(Clone, Copy, PartialEq, Eq)]
+pub enum InternalFile {
+    /// One element, or a scalar.
+    One(Place),
+    /// All elements of an array.
+    Whole { var: u32 },
+}
 
 /// A unit as a statement names it (ISO/IEC 1539-1:2004, 9.4.1). Its number stands as a code: one below 0 as 4,294,967,296
 /// less its amount, and one that no unit has as 4,294,967,295.
@@ -17,6 +26,8 @@ pub enum UnitRef {
     /// NEWUNIT=, of OPEN alone (ISO/IEC 1539-1:2010, 9.5.6.12). The number is the one that the unit is given when the statement
     /// begins; a text leaves it 0.
     New { place: Place, number: u32 },
+    /// Of READ and WRITE alone.
+    Internal(InternalFile),
 }
 
 /// The largest number that a text gives a unit.
@@ -59,7 +70,7 @@ pub fn next_new_unit(code: u32) -> u32
 }
 
 impl UnitRef {
-    /// The code of its number; `*` has none.
+    /// The code of its number; `*` and an internal file have none.
     pub fn number(self) -> Option<u32>
         ensures { result ≡ number_of self }
     {
@@ -68,6 +79,7 @@ impl UnitRef {
             UnitRef::Number(number) => Some(number),
             UnitRef::Held { place: _, number } => Some(number),
             UnitRef::New { place: _, number } => Some(number),
+            UnitRef::Internal(_) => None,
         }
     }
 
@@ -87,6 +99,16 @@ impl UnitRef {
     {
         match self {
             UnitRef::New { place, number: _ } => Some(place),
+            _ => None,
+        }
+    }
+
+    /// The internal file that it is.
+    pub fn internal(self) -> Option<InternalFile>
+        ensures { result ≡ internal_of self }
+    {
+        match self {
+            UnitRef::Internal(file) => Some(file),
             _ => None,
         }
     }
@@ -131,6 +153,7 @@ impl UnitRef {
                 place: _,
                 number: _,
             } => false,
+            UnitRef::Internal(_) => false,
         }
     }
 }
