@@ -121,6 +121,7 @@ module _ (what : Statement) (names : Names) (unit_named_by : List ℕ → Option
   transfer_places : (control : ℕ → List Given) (variables : List Variable) (line : ℕ) (core : Core) (t : Transfer) (moved : Moved) (ref : UnitRef) → IsNamed core
       → (is_asynchronous t ≡ false → MayWait (number_of ref)) → Places (transfer_at control variables line core t moved ref)
   transfer_places control variables line core t moved unit.Star named w = tt
+  transfer_places control variables line core t moved (unit.Internal file) named w = tt
   transfer_places control variables line core t moved (unit.Number n) named w =
       unit_by Places control variables line core t moved (connected_at core.units n) (λ condition. tt) (λ u e. transferred_places control variables line core t moved u (λ k. place_of core (Some n) u named (w k) e))
   transfer_places control variables line core t moved (unit.Held place n) named w =

@@ -85,6 +85,7 @@ module _ (Q : List ℕ → Type 0) where
 
   transfer_connects : (control : ℕ → List Given) (variables : List Variable) (line : ℕ) (core : Core) (t : Transfer) (moved : Moved) (ref : UnitRef) → Connects (transfer_at control variables line core t moved ref)
   transfer_connects control variables line core t moved unit.Star = tt
+  transfer_connects control variables line core t moved (unit.Internal file) = tt
   transfer_connects control variables line core t moved (unit.Number n) =
       unit_by Connects control variables line core t moved (connected_at core.units n) (λ condition. tt) (λ u e. transferred_connects control variables line core t moved u)
   transfer_connects control variables line core t moved (unit.Held place n) =

@@ -126,6 +126,7 @@ module _ (name : List ℕ) (due : Option (List ℕ)) (NotOpened NotAbout : Type 
   transfer_stays : (control : ℕ → List Given) (variables : List Variable) (line : ℕ) (ds : List Desk) (core : Core) (t : Transfer) (moved : Moved) (to : UnitRef) → Ready ds core
       → (NotAbout → option_and_then (names_of core.units) (number_of to) ≢ Some name) → Stays ds (transfer_at control variables line core t moved to)
   transfer_stays control variables line ds core t moved unit.Star r h = ready_point ds core r
+  transfer_stays control variables line ds core t moved (unit.Internal file) r h = ready_point ds core r
   transfer_stays control variables line ds core t moved (unit.Number n) r h =
       unit_by (Stays ds) control variables line core t moved (connected_at core.units n) (λ condition. ready_point ds core r)
       (λ u e. transferred_stays control variables line ds core t moved u r (own_number core.units n u e) (other_file core.units n u e h))

@@ -57,6 +57,7 @@ module _ (us : List Connected) where
 
     transfer_stays : (t : Transfer) (moved : Moved) (ref : UnitRef) → Stays us (transfer_at control variables line core t moved ref)
     transfer_stays t moved unit.Star = e
+    transfer_stays t moved (unit.Internal file) = e
     transfer_stays t moved (unit.Number n) = unit_by (Stays us) control variables line core t moved (connected_at core.units n) (λ condition. e) (λ u is. transferred_stays t moved u)
     transfer_stays t moved (unit.Held place n) = unit_by (Stays us) control variables line core t moved (connected_at core.units n) (λ condition. e) (λ u is. transferred_stays t moved u)
     transfer_stays t moved (unit.New place n) = unit_by (Stays us) control variables line core t moved (connected_at core.units n) (λ condition. e) (λ u is. transferred_stays t moved u)

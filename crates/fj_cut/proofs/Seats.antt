@@ -147,6 +147,7 @@ transferred_ends control variables line core t moved u h at =
 
 transfer_ends : (control : ℕ → List Given) (variables : List Variable) (line : ℕ) (core : Core) (t : Transfer) (moved : Moved) (ref : UnitRef) → AreSeated core → Ends (transfer_at control variables line core t moved ref)
 transfer_ends control variables line core t moved unit.Star h = h
+transfer_ends control variables line core t moved (unit.Internal file) h = h
 transfer_ends control variables line core t moved (unit.Number n) h =
     unit_by Ends control variables line core t moved (connected_at core.units n) (λ condition. h)
     (λ u e. transferred_ends control variables line core t moved u h (ap (connected_at core.units) (found_number core.units n u e) ∙ e))

@@ -48,8 +48,9 @@ file_opened names (statement.OpenUnit u spec iostat) = option_and_then (λ n. op
 file_opened names _ = None
 
 -- The file that the statement may change, removes or opens: that of the unit of a READ or a WRITE, of ENDFILE, or of a CLOSE with
--- STATUS='DELETE', and the one that OPEN opens. No other statement has one: INQUIRE, WAIT and an assignment change no file, and END, any
--- other CLOSE, other motions, and OPEN of the file that is connected leave their files as closing all units does.
+-- STATUS='DELETE', and the one that OPEN opens. No other statement has one: a transfer on `*` or on an internal file, INQUIRE, WAIT and an
+-- assignment change no file, and END, any other CLOSE, other motions, and OPEN of the file that is connected leave their files as closing
+-- all units does.
 abbrev pub file_about : Names → Statement → Option (List ℕ)
 file_about names (statement.OpenUnit u spec iostat) = file_opened names (statement.OpenUnit u spec iostat)
 file_about names (statement.CloseUnit u (Some false) iostat) = option_and_then names (number_of u)

@@ -138,6 +138,7 @@ module _ (control : ℕ → List Given) (variables : List Variable) (line : ℕ)
       by (unit.Number n) f = unit_given p s t n ties (λ q. f q n refl) after (connected_at p.core.units n) refl
       by (unit.Held place n) f = unit_given p s t n ties (λ q. f q n refl) after (connected_at p.core.units n) refl
       by (unit.New place n) f = unit_given p s t n ties (λ q. f q n refl) after (connected_at p.core.units n) refl
+      by (unit.Internal file) f = tt
 
 -- ---- CLOSE and END
 

@@ -17,6 +17,7 @@ use Rattle.fj_bay.proofs.Controlled.{control_same}
 use Rattle.fj_bay.proofs.Keeping.{Kept, kept_same, transfer_kept}
 use Rattle.fj_statement.specs.declared.deck.Variable.{Variable}
 use Rattle.fj_statement.specs.declared.statement.Transfer.{Transfer}
+use Rattle.fj_statement.specs.declared.unit.InternalFile.{InternalFile}
 use Rattle.fj_statement.specs.declared.unit.UnitRef.{UnitRef}
 use Rattle.fj_statement.specs.declared.unit.UnitRef.TheVariants as unit
 use Rattle.fj_store.specs.Variables.{Variables}
@@ -24,12 +25,12 @@ use Rattle.fj_plain.specs.State.{State, Entry, found, with_unit}
 use Rattle.fj_plain.specs.State as plain
 use Rattle.fj_plain.specs.Telling.{is_asynchronous}
 use Rattle.fj_plain.specs.Transfers as plainly
-use Rattle.fj_plain.specs.Transfers.{moved_in, spec_in, layout_of, refusal, without_values, with_cells, with_number, held_places, star_printed}
+use Rattle.fj_plain.specs.Transfers.{inside, moved_in, spec_in, layout_of, refusal, without_values, with_cells, with_number, held_places, star_printed}
 use Rattle.fj_desk.specs.Core.{Core, Pending, Connected, connected_at}
 use Rattle.fj_desk.specs.Desks.{Desk, carry, outcome, brought_by, entry_with, entry_of, log_length}
 use Rattle.fj_desk.specs.Doing.{Desked, acted, finishes, gives, awaits}
 use Rattle.fj_statement.specs.Units.{number_of}
-use Rattle.fj_desk.specs.Acting.{moving_of, pending_of, with_items_out, with_pending, carried_out, refused, unless_refused, on_unit, on_star, transfer_at}
+use Rattle.fj_desk.specs.Acting.{moving_of, pending_of, with_items_out, with_pending, carried_out, refused, unless_refused, on_unit, on_star, on_file, transfer_at}
 use Rattle.fj_desk.specs.Forgetting.{bay_at}
 use Rattle.fj_desk.proofs.Apart.{each_append}
 use Rattle.fj_desk.proofs.Carrying.{Reaches, reaches_then, Serves, serves_at}
@@ -260,12 +261,27 @@ module _ (control : ℕ → List Given) (variables : List Variable) (line : ℕ)
       prints : printed p.core.output p.core.vars ≡ printed s.output s.vars
       prints = ap (λ x. printed x p.core.vars) ties.same.output ∙ ap (λ v. printed s.output v) ties.same.vars
 
+  -- ---- on an internal file
+
+  file_tied : (p : Desked) (s : State) (t : Transfer) (moved : Moved) (file : InternalFile) → Tied p s
+      → ActTied (acted p.desks (on_file control variables p.core t moved file)) (plainly.on_file control variables s t moved file)
+  file_tied p s t moved file ties = (ap (λ x. x.1) same, with_vars p s (done p.core.vars).0 (done s.vars).0 (ap (λ x. x.0) same) ties)
+    where
+      done : Variables → Variables × Condition
+      done vars = inside control variables vars t moved file
+
+      same : done p.core.vars ≡ done s.vars
+      same = ap done ties.same.vars
+
+  -- ---- wherever it goes
+
   at_tied : (p : Desked) (s : State) (t : Transfer) (moved : Moved) (ref : UnitRef) → Tied p s → (is_asynchronous t ≡ false → (n : ℕ) → number_of ref ≡ Some n → Free n s.units)
       → ActTied (acted p.desks (transfer_at control variables line p.core t moved ref)) (plainly.transfer_at control variables s t moved ref)
   at_tied p s t moved unit.Star ties free = star_tied p s t moved ties
   at_tied p s t moved (unit.Number n) ties free = unit_tied p s t moved n ties (λ q. free q n refl) (connected_at p.core.units n) refl
   at_tied p s t moved (unit.Held place n) ties free = unit_tied p s t moved n ties (λ q. free q n refl) (connected_at p.core.units n) refl
   at_tied p s t moved (unit.New place n) ties free = unit_tied p s t moved n ties (λ q. free q n refl) (connected_at p.core.units n) refl
+  at_tied p s t moved (unit.Internal file) ties free = file_tied p s t moved file ties
 
   pub transfer_tied : (p : Desked) (s : State) (t : Transfer) → Tied p s → (is_asynchronous t ≡ false → (n : ℕ) → number_of t.unit ≡ Some n → Free n s.units)
       → ActTied (acted p.desks (transfer_at control variables line p.core t (moved_in variables p.core.vars t) t.unit)) (plainly.reads_or_writes control variables s t)

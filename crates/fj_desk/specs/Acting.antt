@@ -13,6 +13,7 @@ use Rattle.fj_modes.specs.declared.asked.Question.TheVariants as question
 use Rattle.fj_modes.specs.declared.asked.Wanted.{Wanted}
 use Rattle.fj_modes.specs.declared.motion.Motion.{Motion}
 use Rattle.fj_modes.specs.declared.motion.Motion.TheVariants as motion
+use Rattle.fj_statement.specs.declared.unit.InternalFile.{InternalFile}
 use Rattle.fj_statement.specs.declared.unit.UnitRef.{UnitRef}
 use Rattle.fj_statement.specs.declared.unit.UnitRef.TheVariants as unit
 use Rattle.fj_statement.specs.Units.{is_outside}
@@ -32,7 +33,7 @@ use Rattle.fj_plain.specs.Items.{given_back, cell_at, operand_places, value_of}
 use Rattle.fj_plain.specs.Needs.{number_of, number_given, unit_about}
 use Rattle.fj_plain.specs.State.{Files, with_file, without_file}
 use Rattle.fj_plain.specs.Telling.{is_asynchronous}
-use Rattle.fj_plain.specs.Transfers.{moved_in, spec_in, layout_of, refusal, without_values, with_cells, with_number, held_places, star_printed}
+use Rattle.fj_plain.specs.Transfers.{inside, moved_in, spec_in, layout_of, refusal, without_values, with_cells, with_number, held_places, star_printed}
 use Rattle.fj_plain.specs.Connecting.{file_due, keeps_name}
 use Rattle.fj_plain.specs.Inquiring.{About, inquired}
 use Rattle.fj_plain.specs.Statement.{assigned, has_pending, about_other, about_connected, file_asked}
@@ -100,8 +101,13 @@ abbrev pub on_star : (ℕ → List Given) → List Variable → Core → Transfe
 on_star control variables core t moved =
     let p = star_printed control core.output t moved (spec_in variables core.vars t moved.cells) in finishes (record core { output = p.0 }) p.1
 
+-- and on an internal file neither
+abbrev pub on_file : (ℕ → List Given) → List Variable → Core → Transfer → Moved → InternalFile → Doing
+on_file control variables core t moved file = let done = inside control variables core.vars t moved file in finishes (record core { vars = done.0 }) done.1
+
 abbrev pub transfer_at : (ℕ → List Given) → List Variable → ℕ → Core → Transfer → Moved → UnitRef → Doing
 transfer_at control variables line core t moved unit.Star = on_star control variables core t moved
+transfer_at control variables line core t moved (unit.Internal file) = on_file control variables core t moved file
 transfer_at control variables line core t moved u = on_unit control variables line core t moved (option_and_then (connected_at core.units) (number_of u))
 
 -- ---- CLOSE

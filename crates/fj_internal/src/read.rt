@@ -2,7 +2,6 @@
 ghost use Rattle.std.specs.Prelude.{◌≡◌, ◌≤◌, None, length, IfOk};
 ghost use Rattle.fj_value.specs.declared.condition.Condition.TheVariants.{Error};
 ghost use Rattle.fj_modes.specs.Limits.{longest_file};
-ghost use Rattle.fj_list.specs.ListText.{text_of};
 ghost use Rattle.fj_list.specs.Load.{with_undefined};
 ghost use Rattle.fj_perform.specs.Performing.{LeavesStatement};
 ghost use Rattle.fj_transfer.specs.Printing.{control_of};
@@ -13,6 +12,7 @@ ghost use Rattle.fj_transfer.specs.Transfer.{transfer};
 
 use crate::file::{connect, text_of};
 use fj_list::Cells;
+use fj_modes::LONGEST_FILE;
 use fj_outside::Stop;
 use fj_perform::perform;
 use fj_transfer::Transfer;
@@ -44,20 +44,20 @@ fn read_text(alloc: Global, text: &[u8], job: &mut Transfer) -> Result<Condition
     }
 }
 
-/// Carries out a READ on an internal file, whose elements with a line feed behind each are no more bytes than a file may have. The
-/// values, what SIZE= gets and the condition are those of the transfer on a file of these records, or error 32 where an element
-/// holds a line feed or a carriage return. After want of memory nothing is said of the values.
+/// Carries out a READ on an internal file. The values, what SIZE= gets and the condition are those of the transfer on a file of
+/// these records, or error 32 where an element holds a line feed or a carriage return. Elements that with a line feed behind each
+/// are more bytes than a file may have are want of memory, after which nothing is said of the values.
 pub fn read_internal(
     alloc: Global,
     elements: &Cells,
     job: &mut Transfer,
 ) -> Result<Condition, AllocError>
-    requires fits { length (text_of (records_of elements.now)) ≤ longest_file }
-    requires input { IsInput job.old.spec }
+    requires { IsInput job.old.spec }
     ensures taken { IfOk result (λ condition. taken job.new condition ≡ read_inside (control_of job.old.spec.layout) elements.now job.old.spec job.old.moved) }
     ensures statement { LeavesStatement job.old job.new }
 {
     match text_of(alloc, elements)? {
+        Some(text) if text.len() as u64 > LONGEST_FILE => Err(AllocError),
         Some(text) => read_text(alloc, text.bytes(), job),
         None => Ok(refuse(job)),
     }

@@ -1,11 +1,9 @@
 // Statements on internal files of two elements, with what they leave written out by hand.
 ghost use Rattle.std.specs.Prelude.{◌≡◌, ◌<◌, ◌≤◌, ◌^◌, [], None, length, All, IfOk};
-ghost use Rattle.fj_list.specs.ListText.{text_of};
 ghost use Rattle.fj_list.specs.Moved.{AreDistinct, IsOrdered};
 ghost use Rattle.fj_namelist.specs.GroupText.{IsWithin};
 ghost use Rattle.fj_transfer.specs.Moving.{members_of};
 ghost use Rattle.fj_transfer.specs.Printing.{IsRecords};
-ghost use Rattle.fj_internal.specs.Internal.{characters_of, records_of};
 
 use crate::{read_internal, write_internal};
 use Condition::{EndOfFile, Error, Fine};
@@ -15,9 +13,7 @@ use fj_transfer::{EditChange, Layout, Transfer, TransferSpec};
 use fj_value::{Cell, Condition, Items, Kind, Place, Tag, Text, Value};
 use std::alloc::{AllocError, Global};
 
-fn element(alloc: Global, index: u32, text: &[u8]) -> Result<Cell, AllocError>
-    ensures { IfOk result (λ cell. length (characters_of cell.value) ≤ 100) }
-{
+fn element(alloc: Global, index: u32, text: &[u8]) -> Result<Cell, AllocError> {
     let text = Text::from_bytes(alloc, &text[..text.len().min(100)])?;
     Ok(Cell {
         place: Place { var: 1, index },
@@ -26,9 +22,7 @@ fn element(alloc: Global, index: u32, text: &[u8]) -> Result<Cell, AllocError>
     })
 }
 
-fn elements(alloc: Global, texts: [&[u8]; 2]) -> Result<Cells, AllocError>
-    ensures { IfOk result (λ cells. length (text_of (records_of cells)) ≤ 202) }
-{
+fn elements(alloc: Global, texts: [&[u8]; 2]) -> Result<Cells, AllocError> {
     let [first, second] = texts;
     let mut cells = Items::new(alloc);
     cells.push(element(alloc, 1, first)?)?;

@@ -60,6 +60,7 @@ numbered_at control variables s t moved unit.Star n e = cc
 numbered_at control variables s t moved (unit.Number m) n e = ap (λ o. on_unit control variables s t moved (option_and_then (found s.units) o)) e
 numbered_at control variables s t moved (unit.Held place m) n e = ap (λ o. on_unit control variables s t moved (option_and_then (found s.units) o)) e
 numbered_at control variables s t moved (unit.New place m) n e = ap (λ o. on_unit control variables s t moved (option_and_then (found s.units) o)) e
+numbered_at control variables s t moved (unit.Internal file) n e = cc
 
 pub as_at_once : (control : ℕ → List Given) (variables : List Variable) (s : State) (t : Transfer) (n : ℕ) (u : Unit)
     → number_of t.unit ≡ Some n → found s.units n ≡ Some u → u.connection.modes.asynchronous ≡ true → u.halt ≡ None

@@ -20,6 +20,7 @@ numbered_twice m n unit.Star = refl
 numbered_twice m n (unit.Number k) = refl
 numbered_twice m n (unit.Held place k) = refl
 numbered_twice m n (unit.New place k) = refl
+numbered_twice m n (unit.Internal file) = refl
 
 pub with_twice : (m n : ℕ) (w : Statement) → with_number n (with_number m w) ≡ with_number n w
 with_twice m n (statement.Assign to from) = refl
@@ -39,6 +40,7 @@ due_for at new m unit.Star = refl
 due_for at new m (unit.Number k) = refl
 due_for at new m (unit.Held place k) = refl
 due_for at new m (unit.New place k) = refl
+due_for at new m (unit.Internal file) = refl
 
 due_same : (at : Place → Value) (new m : ℕ) (w : Statement) → option_map_or (number_due at new) (unit_of (with_number m w)) 0 ≡ option_map_or (number_due at new) (unit_of w) 0
 due_same at new m (statement.Assign to from) = refl

@@ -20,6 +20,7 @@ use Rattle.fj_modes.specs.Modes.{settled}
 use Rattle.fj_modes.specs.Modes as mode
 use Rattle.fj_modes.specs.declared.modes.Modes.{Modes}
 use Rattle.fj_modes.specs.declared.specifiers.OpenSpec.{OpenSpec}
+use Rattle.fj_statement.specs.declared.unit.InternalFile.{InternalFile}
 use Rattle.fj_statement.specs.declared.unit.UnitRef.{UnitRef}
 use Rattle.fj_statement.specs.declared.unit.UnitRef.TheVariants as unit
 use Rattle.fj_modes.specs.declared.motion.Motion.{Motion}
@@ -33,6 +34,7 @@ use Rattle.fj_statement.specs.declared.deck.Variable.{Variable}
 use Rattle.fj_statement.specs.declared.statement.Transfer.{Transfer}
 use Rattle.fj_statement.specs.declared.statement.Statement.{Statement}
 use Rattle.fj_statement.specs.declared.statement.Statement.TheVariants as statement
+use Rattle.fj_internal.specs.Internal.{Put, Taken, read_inside, written_inside}
 use Rattle.fj_book.specs.Prohibitions.{prohibited}
 use Rattle.fj_store.specs.Kinds.{is_of_kind, of_kind}
 use Rattle.fj_store.specs.Tables.{element_at, element_in, row_with, with_element, with_cells}
@@ -43,7 +45,7 @@ use Rattle.fj_statement.specs.Units.{is_outside, number_from_code}
 use Rattle.fj_plain.specs.Needs.{need, holders, number_of, given_number, unit_asked}
 use Rattle.fj_plain.specs.Inquiring.{inquired}
 use Rattle.fj_plain.specs.Telling.{count_for, with_size, with_input, with_inputs, is_asynchronous, waited, condition_of, after_tells}
-use Rattle.fj_plain.specs.Transfers.{without_values, with_number, moved_by, spec_of, layout_of, refusal, carried_out, made_pending, transferred, unless_refused, on_unit, transfer_at}
+use Rattle.fj_plain.specs.Transfers.{without_values, with_number, moved_by, spec_in, spec_of, layout_of, refusal, carried_out, made_pending, transferred, unless_refused, on_unit, file_cells, with_taken, with_put, inside, transfer_at}
 use Rattle.fj_plain.specs.Transfers as transfer
 use Rattle.fj_plain.specs.Connecting.{file_due, keeps_file, with_modes, is_taken, most_units, with_opened, connects, without_old, opens_with, opens, opens_unit, closes, closes_anyway, moves}
 use Rattle.fj_plain.specs.State.{State, Files, Unit, Entry, elements, found, disconnected, keeps, start}
@@ -280,11 +282,25 @@ module _ (variables : List Variable) where
       by EndOfRecord = without_so t moved s.vars are
       by (Error n) = without_so t moved s.vars are
 
+  inside_so : (control : ℕ → List Given) (vars : Variables) (t : Transfer) (moved : Moved) (file : InternalFile) → Are vars → Are (inside control variables vars t moved file).0
+  inside_so control vars t moved file are = by t.input
+    where
+      taken : Taken
+      taken = read_inside control (file_cells variables vars file) (spec_in variables vars t moved.cells) moved
+
+      put : Put
+      put = written_inside control (file_cells variables vars file) (spec_in variables vars t moved.cells) moved
+
+      by : (input : Bool) → Are (if input then with_taken variables vars t moved taken else with_put variables vars put).0
+      by true = with_so t taken.cells taken.count (without_values variables t moved vars) (without_so t moved vars are)
+      by false = given_so put.elements vars are
+
   transfer_so : (control : ℕ → List Given) (s : State) (t : Transfer) (ref : UnitRef) → Are s.vars → Are (transfer_at control variables s t (moved_by variables s t) ref).0.vars
   transfer_so control s t unit.Star are = are
   transfer_so control s t (unit.Number n) are = unit_so control s t (moved_by variables s t) (found s.units n) are
   transfer_so control s t (unit.Held place n) are = unit_so control s t (moved_by variables s t) (found s.units n) are
   transfer_so control s t (unit.New place n) are = unit_so control s t (moved_by variables s t) (found s.units n) are
+  transfer_so control s t (unit.Internal file) are = inside_so control s.vars t (moved_by variables s t) file are
 
   -- ---- a statement
 

@@ -14,7 +14,7 @@ use Rattle.fj_statement.specs.declared.statement.Statement.TheVariants as statem
 use Rattle.fj_store.specs.Places.{same_place}
 use Rattle.fj_book.specs.Prohibitions.{Holder, is_read, is_held, prohibited}
 use Rattle.fj_store.specs.Places.{is_among}
-use Rattle.fj_plain.specs.Needs.{need, holders, transfer_places, given_places, if_given, unit_places}
+use Rattle.fj_plain.specs.Needs.{need, holders, transfer_places, given_places, if_given, internal_places, unit_places}
 use Rattle.fj_plain.specs.State.{State, Entry}
 use Rattle.fj_plain.specs.PendingLaws.{AreApart}
 use Rattle.fj_plain.proofs.Lists.{no, none_passes, any_map}
@@ -49,11 +49,11 @@ not_in_none p at = absurd (omega (arith, at.1))
 clash : {P : Type 0} (a : Entry) (p : Place) → Contains a.places p → is_among a.places p ≡ false → P
 clash a p at h = no (sym h ∙ among_them a.places p at)
 
-apart_for : (b : Bool) (book : List Entry) (places ids size iostat unit rec pos : List Place)
-    → list_any (is_read (holders book)) (((unit ++ rec) ++ pos) ++ (if b then [] else places)) ≡ false
-    → list_any (is_held (holders book)) (((ids ++ size) ++ iostat) ++ (if b then places else [])) ≡ false
+apart_for : (b : Bool) (book : List Entry) (places internal ids size iostat unit rec pos : List Place)
+    → list_any (is_read (holders book)) (((unit ++ rec) ++ pos) ++ (if b then internal else places)) ≡ false
+    → list_any (is_held (holders book)) (((ids ++ size) ++ iostat) ++ (if b then places else internal)) ≡ false
     → (new : Entry) → new.input ≡ b → new.places ≡ places ++ (if b then size else []) → All (λ a. AreApart a new) book
-apart_for true book places ids size iostat unit rec pos h g new e f k d within either p first second = by (Contains-append_cases places size p (subst (λ l. Contains l p) f second))
+apart_for true book places internal ids size iostat unit rec pos h g new e f k d within either p first second = by (Contains-append_cases places size p (subst (λ l. Contains l p) f second))
   where
     held : Contains (((ids ++ size) ++ iostat) ++ places) p → ⊥
     held at = clash (get_or book k d) p first (held_by_none book (((ids ++ size) ++ iostat) ++ places) p at g k d within)
@@ -61,7 +61,7 @@ apart_for true book places ids size iostat unit rec pos h g new e f k d within e
     by : Contains places p ⊎ Contains size p → ⊥
     by (inl at) = held (Contains-append_right ((ids ++ size) ++ iostat) places p at)
     by (inr at) = held (Contains-append_left ((ids ++ size) ++ iostat) places p (Contains-append_left (ids ++ size) iostat p (Contains-append_right ids size p at)))
-apart_for false book places ids size iostat unit rec pos h g new e f k d within either p first second = by (Contains-append_cases places [] p (subst (λ l. Contains l p) f second))
+apart_for false book places internal ids size iostat unit rec pos h g new e f k d within either p first second = by (Contains-append_cases places [] p (subst (λ l. Contains l p) f second))
   where
     input : (b c : Bool) → c ≡ false → (b || c) ≡ true → b ≡ true
     input true c i j = refl
@@ -82,4 +82,4 @@ pub new_is_apart : (variables : List Variable) (s : State) (t : Transfer) → pr
     → (new : Entry) → new.input ≡ t.input → new.places ≡ transfer_places variables t ++ (if t.input then if_given t.size else []) → All (λ a. AreApart a new) s.book
 new_is_apart variables s t h new e f =
     let two = first_two (list_any (is_read (holders s.book)) (need variables s (statement.Transfer t)).references) (list_any (is_held (holders s.book)) (need variables s (statement.Transfer t)).defines) _ h in
-    apart_for t.input s.book (transfer_places variables t) (if_given t.id) (if_given t.size) (if_given t.iostat) (unit_places t.unit) (given_places variables t.rec) (given_places variables t.pos) two.0 two.1 new e f
+    apart_for t.input s.book (transfer_places variables t) (internal_places variables t.unit) (if_given t.id) (if_given t.size) (if_given t.iostat) (unit_places t.unit) (given_places variables t.rec) (given_places variables t.pos) two.0 two.1 new e f

@@ -7,15 +7,13 @@ use Rattle.fj_value.specs.declared.condition.Condition.{Condition}
 use Rattle.fj_value.specs.declared.condition.Condition.TheVariants.{Fine, EndOfFile, EndOfRecord, Error}
 use Rattle.fj_control.specs.Steps.{Given}
 use Rattle.fj_connect.specs.Connection.{Connection}
-use Rattle.fj_statement.specs.declared.unit.UnitRef.{UnitRef}
-use Rattle.fj_statement.specs.declared.unit.UnitRef.TheVariants as unit
 use Rattle.fj_statement.specs.Units.{number_of}
 use Rattle.fj_transfer.specs.Transfer.{Done, transfer_by}
 use Rattle.fj_statement.specs.declared.deck.Variable.{Variable}
 use Rattle.fj_statement.specs.declared.statement.Transfer.{Transfer}
 use Rattle.fj_statement.specs.declared.statement.Statement.TheVariants as statement
 use Rattle.fj_plain.specs.Telling.{is_asynchronous}
-use Rattle.fj_plain.specs.Transfers.{moved_by, spec_of, layout_of, refusal, unless_halted, halt_behind, made_pending, carried_out, unless_refused, on_unit, transfer_at}
+use Rattle.fj_plain.specs.Transfers.{moved_by, spec_of, layout_of, refusal, unless_halted, halt_behind, made_pending, carried_out, unless_refused, on_unit}
 use Rattle.fj_plain.specs.State.{State, Unit, found}
 use Rattle.fj_plain.specs.Statement.{own}
 use Rattle.fj_plain.specs.UnitLaws.{Ascends, joined, connections}

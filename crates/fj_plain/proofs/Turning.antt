@@ -84,6 +84,7 @@ module _ (control : ℕ → List Given) (variables : List Variable) (s : State) 
   ref_out (unit.Number n) = unit_out (found s.units n)
   ref_out (unit.Held place n) = unit_out (found s.units n)
   ref_out (unit.New place n) = unit_out (found s.units n)
+  ref_out (unit.Internal file) = (λ _. record { book = refl; next = refl; tells = refl }, λ k. no k)
 
   later_out : Out s (becomes_pending variables s (statement.Transfer t)) (own control variables s (statement.Transfer t)).0
   later_out = subst (λ b. Out s (b && fits variables s t (unit_at s (number_of t.unit))) (own control variables s (statement.Transfer t)).0) (sym later) (ref_out t.unit)

@@ -33,7 +33,7 @@ use Rattle.fj_statement.specs.declared.statement.Statement.{Statement}
 use Rattle.fj_statement.specs.declared.statement.Statement.TheVariants as statement
 use Rattle.fj_store.specs.Variables.{Variables}
 use Rattle.fj_plain.specs.Telling.{is_asynchronous}
-use Rattle.fj_plain.specs.Transfers.{moved_by, spec_of, layout_of, refusal, refused, with_values, carried_out, made_pending, transferred, unless_refused, on_unit, star_limit, printed_to, on_star, transfer_at, transfers_nothing}
+use Rattle.fj_plain.specs.Transfers.{moved_by, spec_of, layout_of, refusal, refused, with_values, carried_out, made_pending, transferred, unless_refused, on_unit, star_limit, printed_to, on_star, on_file, transfer_at, transfers_nothing}
 use Rattle.fj_plain.specs.Connecting.{file_due, keeps_file, with_modes, is_taken, most_units, with_opened, connects, without_old, opens_with, opens, opens_unit, closes, closes_anyway, with_move, moves}
 use Rattle.fj_plain.specs.State.{State, Unit, Output, found, with_unit, inserted, without_unit, without_file, disconnected, keeps, all_closed}
 use Rattle.fj_statement.specs.Units.{is_outside, number_of}
@@ -239,6 +239,7 @@ module _ (control : ℕ → List Given) (variables : List Variable) (what : Stat
   transfer_walk t (unit.Number n) is = unit_walk t n (found s.units n) is refl
   transfer_walk t (unit.Held place n) is = unit_walk t n (found s.units n) is refl
   transfer_walk t (unit.New place n) is = unit_walk t n (found s.units n) is refl
+  transfer_walk t (unit.Internal file) is = w.defines s (on_file control variables s t (moved_by variables s t) file).0.vars w.same
 
   nothing_walk : (t : Transfer) → P (transfers_nothing variables s t)
   nothing_walk t = w.defines s (transfers_nothing variables s t).vars w.same

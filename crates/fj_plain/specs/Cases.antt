@@ -10,11 +10,14 @@ use Rattle.fj_modes.specs.declared.specifiers.Access.TheVariants.{Direct}
 use Rattle.fj_modes.specs.declared.specifiers.Action.TheVariants as action
 use Rattle.fj_modes.specs.declared.motion.Motion.TheVariants.{Rewind, Flush}
 use Rattle.fj_statement.specs.declared.statement.Control.TheVariants.{Unformatted}
+use Rattle.fj_statement.specs.declared.statement.Statement.{Statement}
 use Rattle.fj_statement.specs.declared.statement.Statement.TheVariants as statement
 use Rattle.fj_plain.specs.State.{Tell}
 use Rattle.fj_plain.specs.Statement.{execution, ended, error_stop, prohibition, Ending, Result}
-use Rattle.fj_plain.specs.DeckWords.{scalar, integers, at, var, whole, two_lines, no_files, file, lines_from, opening, replacing, old_later, plain_open, wait, «end», assign, transfer, i_transfer, a_transfer, now, later, by_i, by_a, bare, four_reads, read_later}
+use Rattle.fj_plain.specs.DeckWords.{scalar, integers, at, var, whole, two_lines, no_files, file, lines_from, opening, replacing, old_later, plain_open, wait, «end», assign, transfer, i_transfer, a_transfer, slash_transfer, now, later, by_i, by_a, by_slash, bare, four_reads, read_later}
 use Rattle.fj_list.specs.ListText.{text_of}
+use Rattle.fj_statement.specs.declared.unit.InternalFile.{InternalFile}
+use Rattle.fj_statement.specs.declared.unit.InternalFile.TheVariants.{One}
 use Rattle.fj_statement.specs.declared.unit.UnitRef.TheVariants as unit
 use Rattle.fj_statement.specs.declared.statement.Transfer.{Transfer}
 
@@ -98,3 +101,21 @@ CloseThatErrs = Comes (execution (integers 5) (lines_from 2 (opening 10 (record 
     ∷ by_i 1 (now (record (i_transfer false 10 1 (whole (pos 5))) { iostat = Some (at 1) })) ∷ bare (statement.CloseUnit (unit.Number 11) None (Some (at 2)))
     ∷ bare (statement.Move Rewind (unit.Number 11) (Some (at 3))) ∷ bare (statement.Move Flush (unit.Number 11) (Some (at 4))) ∷ «end» ∷ [])) no_files)
     ended (int (pos 4) ∷ int (pos 0) ∷ int (pos 0) ∷ int (pos 1) ∷ int (pos 1) ∷ [])
+
+-- ---- on an internal file
+
+abbrev pub on_file : InternalFile → Transfer → Statement
+on_file f t = now (record t { unit = unit.Internal f })
+
+-- a WRITE fills a scalar up with blanks, and a READ takes its value from there
+abbrev pub WrittenAndReadInside : Type 0
+WrittenAndReadInside = Comes (execution (scalar (kind.Chars 5) ∷ scalar kind.Int4 ∷ []) (lines_from 3 (by_i 3 (on_file (One (at 0)) (i_transfer false 0 3 (whole (pos 42))))
+    ∷ by_i 4 (on_file (One (at 0)) (i_transfer true 0 4 (var 1))) ∷ «end» ∷ [])) no_files)
+    ended (Chars (codes " 42  ") ∷ int (pos 42) ∷ [])
+
+-- more records than elements (31) leave the elements, and so does a record longer than they are (15)
+abbrev pub ElementsAreLeft : Type 0
+ElementsAreLeft = Comes (execution (scalar (kind.Chars 2) ∷ integers 2) (lines_from 3 (by_i 2 (on_file (One (at 0)) (i_transfer false 0 2 (whole (pos 7))))
+    ∷ by_slash 1 (on_file (One (at 0)) (record (slash_transfer 0 1 (whole (pos 8))) { iostat = Some (at 1) }))
+    ∷ by_i 3 (on_file (One (at 0)) (record (i_transfer false 0 3 (whole (pos 9))) { iostat = Some (at 2) })) ∷ «end» ∷ [])) no_files)
+    ended (Chars (codes " 7") ∷ int (pos 31) ∷ int (pos 15) ∷ [])

@@ -1,5 +1,5 @@
 -- Words to write decks with.
-use Rattle.std.specs.Prelude.{ℕ, zero, suc, ◌+◌, ℤ, Bool, true, List, [], ◌∷◌, Option, Some, None, codes}
+use Rattle.std.specs.Prelude.{ℕ, zero, suc, ◌+◌, ℤ, Bool, true, false, List, [], ◌∷◌, Option, Some, None, codes}
 use Rattle.fj_value.specs.declared.kind.Kind.{Kind}
 use Rattle.fj_value.specs.declared.kind.Kind.TheVariants.{Int4}
 use Rattle.fj_value.specs.declared.place.Place.{Place}
@@ -152,17 +152,30 @@ a_format w = control.Explicit (item.Field 1 (edit.Chars w) ∷ [])
 abbrev pub a_steps : Option ℕ → ℕ → List Given
 a_steps w n = gives (step.edit (edit.Chars w)) ∷ done ∷ []
 
+-- (Iw/), of which one item makes two records
+abbrev pub slash_format : ℕ → Control
+slash_format w = control.Explicit (item.Field 1 (edit.Int w None) ∷ item.Slash 1 ∷ [])
+
+abbrev pub slash_steps : ℕ → ℕ → List Given
+slash_steps w n = gives (step.edit (edit.Int w None)) ∷ gives step.slash ∷ done ∷ []
+
 abbrev pub i_transfer : Bool → ℕ → ℕ → Operand → Transfer
 i_transfer input number w item = transfer input number (i_format w) (item ∷ [])
 
 abbrev pub a_transfer : Bool → ℕ → Option ℕ → Operand → Transfer
 a_transfer input number w item = transfer input number (a_format w) (item ∷ [])
 
+abbrev pub slash_transfer : ℕ → ℕ → Operand → Transfer
+slash_transfer number w item = transfer false number (slash_format w) (item ∷ [])
+
 abbrev pub by_i : ℕ → Statement → Written
 by_i w st = (st, i_steps w)
 
 abbrev pub by_a : Option ℕ → Statement → Written
 by_a w st = (st, a_steps w)
+
+abbrev pub by_slash : ℕ → Statement → Written
+by_slash w st = (st, slash_steps w)
 
 abbrev pub file : List ℕ → List ℕ → Files
 file name bytes = with_file name bytes no_files

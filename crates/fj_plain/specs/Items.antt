@@ -8,6 +8,8 @@ use Rattle.fj_value.specs.declared.value.Cell.{Cell}
 use Rattle.fj_value.specs.declared.value.Value.{Value}
 use Rattle.fj_value.specs.declared.value.Value.TheVariants as value
 use Rattle.fj_statement.specs.declared.deck.Variable.{Variable}
+use Rattle.fj_statement.specs.declared.unit.InternalFile.{InternalFile}
+use Rattle.fj_statement.specs.declared.unit.InternalFile.TheVariants as file
 use Rattle.fj_statement.specs.declared.statement.Operand.{Operand}
 use Rattle.fj_statement.specs.declared.statement.Operand.TheVariants as operand
 use Rattle.fj_plain.specs.State.{elements}
@@ -28,6 +30,11 @@ abbrev pub operand_places : List Variable → Operand → List Place
 operand_places variables (operand.Literal kind value) = []
 operand_places variables (operand.One place) = place ∷ []
 operand_places variables (operand.Whole var) = places_of variables var
+
+-- the elements of an internal file
+abbrev pub file_places : List Variable → InternalFile → List Place
+file_places variables (file.One place) = place ∷ []
+file_places variables (file.Whole var) = places_of variables var
 
 -- a cell of a place with its value
 abbrev pub cell_at : List Variable → Variables → Place → Cell

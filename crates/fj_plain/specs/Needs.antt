@@ -11,12 +11,13 @@ use Rattle.fj_statement.specs.declared.unit.Subject.TheVariants as subject
 use Rattle.fj_statement.specs.declared.deck.Variable.{Variable}
 use Rattle.fj_statement.specs.declared.statement.Operand.{Operand}
 use Rattle.fj_statement.specs.declared.unit.UnitRef.{UnitRef}
+use Rattle.fj_statement.specs.declared.unit.UnitRef.TheVariants as unit
 use Rattle.fj_statement.specs.declared.statement.Control.{Control}
 use Rattle.fj_statement.specs.declared.statement.Control.TheVariants as control
 use Rattle.fj_statement.specs.declared.statement.Transfer.{Transfer}
 use Rattle.fj_statement.specs.declared.statement.Statement.{Statement}
 use Rattle.fj_statement.specs.declared.statement.Statement.TheVariants as statement
-use Rattle.fj_plain.specs.Items.{operand_places, places_of, value_of, integer_of}
+use Rattle.fj_plain.specs.Items.{file_places, operand_places, places_of, value_of, integer_of}
 use Rattle.fj_book.specs.Prohibitions.{Need, Holder}
 use Rattle.fj_plain.specs.State.{State, Unit, Entry}
 use Rattle.fj_store.specs.Variables.{Variables}
@@ -54,6 +55,11 @@ group_places variables _ = []
 abbrev pub transfer_places : List Variable → Transfer → List Place
 transfer_places variables t = flat_map (operand_places variables) t.items ++ group_places variables t.control
 
+-- the elements of an internal file
+abbrev pub internal_places : List Variable → UnitRef → List Place
+internal_places variables (unit.Internal file) = file_places variables file
+internal_places variables _ = []
+
 abbrev pub no_need : Need
 no_need = record { unit = None; references = []; defines = []; specifiers = []; items = []; internal = []; id = None }
 
@@ -61,19 +67,20 @@ no_need = record { unit = None; references = []; defines = []; specifiers = []; 
 abbrev pub need_of : List Place → List Place → Need
 need_of references specifiers = record no_need { references = references; defines = specifiers; specifiers = specifiers }
 
--- of READ and WRITE: the unit's place, REC= and POS= are referenced, and what an output takes; ID=, SIZE= and IOSTAT= are defined, and what an input
--- reads
+-- of READ and WRITE: the unit's place, REC= and POS= are referenced, what an output takes, and the internal file of an input; ID=, SIZE= and IOSTAT=
+-- are defined, what an input reads, and the internal file of an output
 abbrev pub transfer_need : List Variable → Transfer → Need
 transfer_need variables t =
     let places = transfer_places variables t in
+    let internal = internal_places variables t.unit in
     let specifiers = if_given t.id ++ if_given t.size ++ if_given t.iostat in
     record {
       unit = number_of t.unit;
-      references = unit_places t.unit ++ given_places variables t.rec ++ given_places variables t.pos ++ (if t.input then [] else places);
-      defines = specifiers ++ (if t.input then places else []);
+      references = unit_places t.unit ++ given_places variables t.rec ++ given_places variables t.pos ++ (if t.input then internal else places);
+      defines = specifiers ++ (if t.input then places else internal);
       specifiers = specifiers;
       items = places;
-      internal = [];
+      internal = internal;
       id = None;
     }
 

@@ -17,11 +17,13 @@ use Rattle.fj_transfer.specs.declared.transfer.Layout.TheVariants as layout
 use Rattle.fj_statement.specs.declared.deck.Variable.{Variable}
 use Rattle.fj_statement.specs.declared.statement.Control.{Control}
 use Rattle.fj_statement.specs.declared.statement.Control.TheVariants as control
+use Rattle.fj_statement.specs.declared.unit.InternalFile.{InternalFile}
 use Rattle.fj_statement.specs.declared.unit.UnitRef.{UnitRef}
 use Rattle.fj_statement.specs.declared.unit.UnitRef.TheVariants as unit
 use Rattle.fj_statement.specs.declared.statement.Transfer.{Transfer}
 use Rattle.fj_store.specs.Variables.{Variables, with_value, undefined_at, moved_of, is_at}
-use Rattle.fj_plain.specs.Items.{given_back, kind_of, cell_at, cells_of, number_for}
+use Rattle.fj_internal.specs.Internal.{Put, Taken, read_inside, written_inside}
+use Rattle.fj_plain.specs.Items.{file_places, given_back, kind_of, cell_at, cells_of, number_for}
 use Rattle.fj_plain.specs.Needs.{number_of, transfer_places, group_places, if_given, number_given}
 use Rattle.fj_plain.specs.Telling.{is_asynchronous, with_size}
 use Rattle.fj_transfer.specs.Printing.{Printed, printed}
@@ -181,10 +183,35 @@ star_printed control output t moved spec =
 abbrev pub on_star : (ℕ → List Given) → State → Transfer → Moved → TransferSpec → State × Condition
 on_star control s t moved spec = let p = star_printed control s.output t moved spec in (record s { output = p.0 }, p.1)
 
+-- ---- on an internal file: the statement itself carries it out
+
+-- the records of the file
+abbrev pub file_cells : List Variable → Variables → InternalFile → List Cell
+file_cells variables vars file = map (cell_at variables vars) (file_places variables file)
+
+-- the items of an input have their values, or none
+abbrev pub with_taken : List Variable → Variables → Transfer → Moved → Taken → Variables × Condition
+with_taken variables vars t moved taken = (with_cells variables t taken.cells taken.count (without_values variables t moved vars), taken.condition)
+
+-- the elements have theirs
+abbrev pub with_put : List Variable → Variables → Put → Variables × Condition
+with_put variables vars put = (given_back variables put.elements vars, put.condition)
+
+-- the variables then, and the condition
+abbrev pub inside : (ℕ → List Given) → List Variable → Variables → Transfer → Moved → InternalFile → Variables × Condition
+inside control variables vars t moved file =
+    let elements = file_cells variables vars file in
+    let spec = spec_in variables vars t moved.cells in
+    if t.input then with_taken variables vars t moved (read_inside control elements spec moved) else with_put variables vars (written_inside control elements spec moved)
+
+abbrev pub on_file : (ℕ → List Given) → List Variable → State → Transfer → Moved → InternalFile → State × Condition
+on_file control variables s t moved file = let done = inside control variables s.vars t moved file in (record s { vars = done.0 }, done.1)
+
 -- ---- the statement
 
 abbrev pub transfer_at : (ℕ → List Given) → List Variable → State → Transfer → Moved → UnitRef → State × Condition
 transfer_at control variables s t moved unit.Star = on_star control s t moved (spec_of variables s t moved.cells)
+transfer_at control variables s t moved (unit.Internal file) = on_file control variables s t moved file
 transfer_at control variables s t moved u = on_unit control variables s t moved (option_and_then (found s.units) (number_of u))
 
 abbrev pub reads_or_writes : (ℕ → List Given) → List Variable → State → Transfer → State × Condition

@@ -1,8 +1,10 @@
--- What holds of units and files (ISO/IEC 1539-1:2004, 9.4), and what telling and assignment leave alone.
+-- What holds of units and files (ISO/IEC 1539-1:2004, 9.4), and what telling, assignment and transfers on internal files leave alone.
 use Rattle.std.specs.Prelude.{◌≡◌, ◌≢◌, ℕ, ◌<◌, ◌≤◌, ◌==◌, if◌then◌else◌, Bool, true, List, map, Some, None, length}
 use Rattle.std.specs.List.{All, AllPairs, list_any}
 use Rattle.fj_statement.specs.declared.deck.Variable.{Variable}
 use Rattle.fj_statement.specs.Units.{number_of}
+use Rattle.fj_statement.specs.declared.unit.InternalFile.{InternalFile}
+use Rattle.fj_statement.specs.declared.unit.UnitRef.TheVariants.{Internal}
 use Rattle.fj_statement.specs.declared.statement.Operand.{Operand}
 use Rattle.fj_statement.specs.declared.statement.Transfer.{Transfer}
 use Rattle.fj_statement.specs.declared.statement.Statement.TheVariants as statement
@@ -57,6 +59,11 @@ TellingChangesNoFile = (variables : List Variable) (line : ℕ) (told : List Ent
 abbrev pub AssignmentChangesVariables : Type 0
 AssignmentChangesVariables = (variables : List Variable) (line : ℕ) (to from : Operand) (control : ℕ → List Given) (s : State) →
     let after = (step variables (record { line = line; what = statement.Assign to from }, control) s).0 in after ≡ record s { vars = after.vars }
+
+-- and so does a READ or WRITE on an internal file (9.3)
+abbrev pub InternalTransfersChangeVariables : Type 0
+InternalTransfersChangeVariables = (variables : List Variable) (line : ℕ) (t : Transfer) (file : InternalFile) (control : ℕ → List Given) (s : State) → t.unit ≡ Internal file →
+    let after = (step variables (record { line = line; what = statement.Transfer t }, control) s).0 in after ≡ record s { vars = after.vars }
 
 -- where all units are closed, as at END and at a stop, the file of each has its bytes, with the line feed of a record that is open,
 -- or is gone where it is a scratch file; all others stay

@@ -1,5 +1,5 @@
 // Worked cases of the order in which a statement goes. Other decks with their answers are in fj_cases.
-ghost use Rattle.fj_plain.specs.Cases.{SkippedTellTheirCause, EndOfRecordHaltsNothing, NothingIsRead, RefusedReadsNothing, TestsAreInOrder, TellsComeBeforeTests, ProhibitionsComeFirst, DefinitionsComeFirst, OpenTestsAreInOrder, CloseThatErrs};
+ghost use Rattle.fj_plain.specs.Cases.{SkippedTellTheirCause, EndOfRecordHaltsNothing, NothingIsRead, RefusedReadsNothing, TestsAreInOrder, TellsComeBeforeTests, ProhibitionsComeFirst, DefinitionsComeFirst, OpenTestsAreInOrder, CloseThatErrs, WrittenAndReadInside, ElementsAreLeft};
 
 /// A transfer behind an end of file is skipped and tells its cause, and a wait for it waits for all of the unit.
 pub fn skipped_tell_their_cause()
@@ -49,4 +49,14 @@ pub fn open_tests_are_in_order()
 /// A CLOSE that is in error leaves its unit connected; a unit that is not connected is closed, and not moved.
 pub fn close_that_errs()
     ensures { CloseThatErrs }
+{}
+
+/// A WRITE on an internal file fills its element up with blanks, and a READ takes its value from there.
+pub fn written_and_read_inside()
+    ensures { WrittenAndReadInside }
+{}
+
+/// Too many records, and a record that is too long, leave the elements of an internal file.
+pub fn elements_are_left()
+    ensures { ElementsAreLeft }
 {}

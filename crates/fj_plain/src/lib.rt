@@ -12,9 +12,9 @@ mod unit_laws;
 mod variable_laws;
 
 pub use cases::{
-    close_that_errs, definitions_come_first, end_of_record_halts_nothing, nothing_is_read,
-    open_tests_are_in_order, prohibitions_come_first, refused_reads_nothing,
-    skipped_tell_their_cause, tells_come_before_tests, tests_are_in_order,
+    close_that_errs, definitions_come_first, elements_are_left, end_of_record_halts_nothing,
+    nothing_is_read, open_tests_are_in_order, prohibitions_come_first, refused_reads_nothing,
+    skipped_tell_their_cause, tells_come_before_tests, tests_are_in_order, written_and_read_inside,
 };
 pub use cut_laws::{cut_is_before, execution_goes_on};
 pub use halt_laws::{
@@ -25,7 +25,8 @@ pub use pending_laws::{
 };
 pub use telling_laws::gravest_is_told;
 pub use unit_laws::{
-    assignment_changes_variables, closing_leaves_each, files_are_apart, later_is_as_at_once,
-    pending_are_connected, telling_changes_no_file, units_ascend,
+    assignment_changes_variables, closing_leaves_each, files_are_apart,
+    internal_transfers_change_variables, later_is_as_at_once, pending_are_connected,
+    telling_changes_no_file, units_ascend,
 };
 pub use variable_laws::variables_are_as_declared;

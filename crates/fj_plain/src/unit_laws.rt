@@ -1,5 +1,5 @@
-// Laws on units and files, and on what telling and assignment leave alone.
-ghost use Rattle.fj_plain.specs.UnitLaws.{UnitsAscend, FilesAreApart, PendingAreConnected, TellingChangesNoFile, AssignmentChangesVariables, ClosingLeavesEach, LaterIsAsAtOnce};
+// Laws on units and files, and on what telling, assignment and transfers on internal files leave alone.
+ghost use Rattle.fj_plain.specs.UnitLaws.{UnitsAscend, FilesAreApart, PendingAreConnected, TellingChangesNoFile, AssignmentChangesVariables, InternalTransfersChangeVariables, ClosingLeavesEach, LaterIsAsAtOnce};
 
 /// Units are in ascending order, and at most sixteen.
 pub fn units_ascend()
@@ -24,6 +24,11 @@ pub fn telling_changes_no_file()
 /// An assignment changes nothing but variables.
 pub fn assignment_changes_variables()
     ensures { AssignmentChangesVariables }
+{}
+
+/// A READ or WRITE on an internal file changes nothing but variables.
+pub fn internal_transfers_change_variables()
+    ensures { InternalTransfersChangeVariables }
 {}
 
 /// Where all units are closed, the file of each has its bytes or, of a scratch file, is gone, and all others stay.

@@ -96,6 +96,7 @@ transferred_keeps control variables line core t moved u h s =
 
 transfer_keeps : (control : ℕ → List Given) (variables : List Variable) (line : ℕ) (core : Core) (t : Transfer) (moved : Moved) (to : UnitRef) → Housed core.units → Keeps core (transfer_at control variables line core t moved to)
 transfer_keeps control variables line core t moved unit.Star h = (refl, refl, h)
+transfer_keeps control variables line core t moved (unit.Internal file) h = (refl, refl, h)
 transfer_keeps control variables line core t moved (unit.Number n) h =
     unit_by (Keeps core) control variables line core t moved (connected_at core.units n) (λ condition. (refl, refl, h)) (λ u e. transferred_keeps control variables line core t moved u h (found_housed core.units n u h e))
 transfer_keeps control variables line core t moved (unit.Held place n) h =

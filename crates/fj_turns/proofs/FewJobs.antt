@@ -56,6 +56,7 @@ transferred_fair k control variables line core t moved u h = either (Fair (suc (
 transfer_fair : (k : ℕ) (control : ℕ → List Given) (variables : List Variable) (line : ℕ) (core : Core) (t : Transfer) (moved : Moved) (to : UnitRef) → Seated core.units
     → Fair (suc (suc k)) (transfer_at control variables line core t moved to)
 transfer_fair k control variables line core t moved unit.Star h = h
+transfer_fair k control variables line core t moved (unit.Internal file) h = h
 transfer_fair k control variables line core t moved (unit.Number n) h =
     unit_by (Fair (suc (suc k))) control variables line core t moved (connected_at core.units n) (λ condition. h) (λ u e. transferred_fair k control variables line core t moved u h)
 transfer_fair k control variables line core t moved (unit.Held place n) h =

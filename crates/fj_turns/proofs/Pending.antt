@@ -56,6 +56,7 @@ module _ (control : ℕ → List Given) (variables : List Variable) (line : ℕ)
 
   transfer_none : (moved : Moved) (to : UnitRef) → AwaitsNone (transfer_at control variables line core t moved to)
   transfer_none moved unit.Star = tt
+  transfer_none moved (unit.Internal file) = tt
   transfer_none moved (unit.Number n) = unit_none moved (connected_at core.units n)
   transfer_none moved (unit.Held place n) = unit_none moved (connected_at core.units n)
   transfer_none moved (unit.New place n) = unit_none moved (connected_at core.units n)

@@ -126,7 +126,7 @@ doing_silent what f control variables line core condition =
     doing_by (Silent core.output) control variables line core what (f control variables line core) (λ vars condition. refl) (λ u keep iostat condition is. anyway_silent core keep condition (unit_at core (number_of u)))
     (λ condition is. all_silent core.output core.units core condition refl) condition
 
--- a transfer on `*`, or on a unit
+-- a transfer on `*`, on an internal file, or on a unit
 transfer_silent : (t : Transfer) (to : UnitRef) → t.unit ≡ to → IsAlone (statement.Transfer t) ⊎ IsSilent (statement.Transfer t)
 transfer_silent t unit.Star e = inl (record {
   waits = λ es vars. ap (λ u. if is_asynchronous t then [] else of_unit es (number_of u)) e ∙ both (is_asynchronous t);
@@ -136,6 +136,9 @@ transfer_silent t unit.Star e = inl (record {
     both : (b : Bool) → ◌≡◌ {A = List Entry} (if b then [] else []) []
     both true = refl
     both false = refl
+transfer_silent t (unit.Internal file) e =
+    inr (doing_silent (statement.Transfer t) (λ control variables line core.
+    subst (λ u. Silent core.output (transfer_at control variables line core t (moved_in variables core.vars t) u)) (sym e) refl))
 transfer_silent t (unit.Number n) e =
     inr (doing_silent (statement.Transfer t) (λ control variables line core.
     subst (λ u. Silent core.output (transfer_at control variables line core t (moved_in variables core.vars t) u)) (sym e)

@@ -8,8 +8,8 @@ use Rattle.fj_internal.specs.Internal.{Taken, records_of, holds_line_end}
 use Rattle.fj_internal.proofs.LawProofs.{read_is, refused_is}
 use Rattle.fj_internal.proofs.read.read_internal.Goals as goal
 
-pub returns-in-Some-clause-taken : goal.returns-in-Some-clause-taken
-returns-in-Some-clause-taken c =
+pub returns-in-Some-2-clause-taken : goal.returns-in-Some-2-clause-taken
+returns-in-Some-2-clause-taken c =
     let job = c.args.job.now in
     let elements = c.args.elements.now in
     let none : list_any holds_line_end (records_of elements) ≡ false = sym c.in_ok-text.ensures.held ∙ ap (λ o. is_none o) c.in-Some.is in
