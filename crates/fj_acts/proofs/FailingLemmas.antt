@@ -126,6 +126,7 @@ module _ (control : ℕ → List Given) (variables : List Variable) (line : ℕ)
 
   at_there : (t : Transfer) (moved : Moved) (ref : UnitRef) → Leaves core (transfer_at control variables line core t moved ref)
   at_there t moved unit.Star = record { units = refl; files = λ name other. refl }
+  at_there t moved (unit.Internal file) = record { units = refl; files = λ name other. refl }
   at_there t moved (unit.Number n) =
       unit_by (Leaves core) control variables line core t moved (connected_at core.units n) (λ condition. record { units = refl; files = λ name other. refl }) (λ u e. carried_there t moved u)
   at_there t moved (unit.Held place n) =

@@ -1,6 +1,7 @@
 -- What READ and WRITE do, as jobs and how the statement goes on.
 use Rattle.std.proofs.Common.{◌≡◌, ◌⊎◌, inl, inr, ℕ, Bool, true, false, List, [], Option, Some, None, Result, Ok, Err, IfOk, refl, sym, ap, subst, append-nil, ◌∙◌}
 use Rattle.std.specs.Prelude.{if◌then◌else◌, OnErr}
+use Rattle.fj_statement.specs.declared.unit.InternalFile.{InternalFile}
 use Rattle.fj_statement.specs.declared.unit.UnitRef.{UnitRef}
 use Rattle.fj_statement.specs.declared.unit.UnitRef.TheVariants as unit
 use Rattle.fj_items.specs.Handing.{HandsFront, whole_records}
@@ -20,7 +21,7 @@ use Rattle.fj_bay.specs.Jobs.{move, resume}
 use Rattle.fj_bay.specs.Plain.{moving_of as task_of}
 use Rattle.fj_bay.specs.declared.job.Job.TheVariants as job
 use Rattle.fj_store.specs.Storage.{Storage, values_of}
-use Rattle.fj_plain.specs.State.{Files}
+use Rattle.fj_plain.specs.State.{Files, Output}
 use Rattle.fj_plain.specs.Statement.{Stated, control_by}
 use Rattle.fj_plain.specs.Transfers.{moved_in, without_values, refusal, layout_of}
 use Rattle.fj_plain.specs.Telling.{is_asynchronous}
@@ -182,7 +183,6 @@ stays : (control : ℕ → List Given) (variables : List Variable) (line : ℕ) 
 stays control variables line core t moved None = refl
 stays control variables line core t moved (Some u) = stays_under control variables line core t moved u (refusal u.modes t (layout_of variables moved.cells t.control))
 
--- so a sink that took nothing took a front of what was due
 -- a unit that is written by its number, or has it from a place
 abbrev pub IsOf : ℕ → UnitRef → Type 0
 IsOf n u = (u ≡ unit.Number n) ⊎ (((place : Place) × (u ≡ unit.Held place n)) ⊎ ((place : Place) × (u ≡ unit.New place n)))
@@ -193,14 +193,19 @@ on_number control variables line core t moved n u (inl e) = ap (transfer_at cont
 on_number control variables line core t moved n u (inr (inl e)) = ap (transfer_at control variables line core t moved) (sym e.1)
 on_number control variables line core t moved n u (inr (inr e)) = ap (transfer_at control variables line core t moved) (sym e.1)
 
+-- so a sink that took nothing took a front of what was due
+front_of_none : (taken : List ℕ) (old due : Output) → due ≡ old → HandsFront taken taken old due
+front_of_none taken old due same = ([], [], ap whole_records same ∙ sym (append-nil (whole_records old)), sym (append-nil taken))
+
 pub hands_nothing : {X : Type 0} (r : Result X Lost) (taken : List ℕ) (control : ℕ → List Given) (variables : List Variable) (line : ℕ) (core : Core) (t : Transfer) (moved : Moved) (n : ℕ) → IsOf n t.unit
     → OnErr r (HandsFront taken taken core.output (core_at (transfer_at control variables line core t moved t.unit)).output)
 hands_nothing (Ok x) taken control variables line core t moved n is = tt
-hands_nothing (Err lost) taken control variables line core t moved n is = (
-  [],
-  [],
-  ap (λ (d : Doing). whole_records (core_at d).output) (sym (on_number control variables line core t moved n t.unit is))
-      ∙ ap whole_records (stays control variables line core t moved (connected_at core.units n))
-      ∙ sym (append-nil (whole_records core.output)),
-  sym (append-nil taken),
-)
+hands_nothing (Err lost) taken control variables line core t moved n is =
+    front_of_none taken core.output (core_at (transfer_at control variables line core t moved t.unit)).output
+    (ap (λ (d : Doing). (core_at d).output) (sym (on_number control variables line core t moved n t.unit is)) ∙ stays control variables line core t moved (connected_at core.units n))
+
+-- and so it did where the unit is an internal file
+pub hands_nothing_inside : (taken : List ℕ) (control : ℕ → List Given) (variables : List Variable) (line : ℕ) (core : Core) (t : Transfer) (moved : Moved) (file : InternalFile) → t.unit ≡ unit.Internal file
+    → HandsFront taken taken core.output (core_at (transfer_at control variables line core t moved t.unit)).output
+hands_nothing_inside taken control variables line core t moved file is =
+    front_of_none taken core.output (core_at (transfer_at control variables line core t moved t.unit)).output (ap (λ u. (core_at (transfer_at control variables line core t moved u)).output) is)

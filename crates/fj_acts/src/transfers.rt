@@ -35,7 +35,9 @@ use crate::lost::lost_by_entry;
 use crate::places::distinct_places;
 use crate::state::Core;
 use fj_bay::Job;
-use fj_items::{Lost, give_cells, moving, refusal, set_number, undefine, write_star};
+use fj_items::{
+    Lost, give_cells, moving, refusal, set_number, transfer_inside, undefine, write_star,
+};
 use fj_outside::{FileStore, Sink};
 use fj_pending::{Held, Pendings, Told, runs_held};
 use fj_statement::{Transfer, UnitRef, Variables};
@@ -157,7 +159,7 @@ fn transfer_on<F: FileStore>(
     }
 }
 
-/// READ or WRITE, on `*` or a unit.
+/// READ or WRITE, on `*`, an internal file or a unit.
 #[tactic(auto, using(crate::proofs::StateLemmas::answers_kept))]
 #[inline(always)]
 pub(crate) fn read_or_write<F: FileStore, W: Sink>(
@@ -200,6 +202,12 @@ pub(crate) fn read_or_write<F: FileStore, W: Sink>(
             match write_star(alloc, variables, store, output, out, t) {
                 Ok(condition) => Ok(Doing::Finishes(condition)),
                 Err(lost) => Err(lost),
+            }
+        }
+        UnitRef::Internal(file) => {
+            match transfer_inside(alloc, variables, &mut core.store, t, file) {
+                Ok(condition) => Ok(Doing::Finishes(condition)),
+                Err(cause) => Err(cause),
             }
         }
         UnitRef::Number(number)

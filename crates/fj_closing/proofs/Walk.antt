@@ -116,6 +116,7 @@ module _ (control : ℕ → List Given) (variables : List Variable) (line : ℕ)
 
   transfer_sits : (t : Transfer) (moved : Moved) (to : UnitRef) → Sits names (transfer_at control variables line core t moved to)
   transfer_sits t moved unit.Star = s
+  transfer_sits t moved (unit.Internal file) = s
   transfer_sits t moved (unit.Number n) =
       unit_by (Sits names) control variables line core t moved (connected_at core.units n) (λ condition. s)
       (λ u e. transferred_sits t moved u (seated_low names core.units u s (own_found core (Some n) u e)))

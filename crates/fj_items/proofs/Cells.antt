@@ -129,7 +129,7 @@ fresh_item m c new =
 
 module _ (f : Place → Cell) (at : (p : Place) → (f p).place ≡ p) where
   -- places of a variable that no cell has come behind all others
-  run_added : (var from n : ℕ) (m : Moved) → AreFree var from m.cells → (moved_from m (map f (counted_from var from n))).cells ≡ m.cells ++ map f (counted_from var from n)
+  pub run_added : (var from n : ℕ) (m : Moved) → AreFree var from m.cells → (moved_from m (map f (counted_from var from n))).cells ≡ m.cells ++ map f (counted_from var from n)
   run_added var from zero m free = sym (append-nil m.cells)
   run_added var from (suc n) m free =
       let p : Place = record { var = var; index = from } in

@@ -3,6 +3,7 @@ pub mod Ends
 pub mod Finds
 pub mod Fits
 pub mod Gathers
+pub mod Inside
 pub mod Limits
 pub mod Parts
 pub mod Prints

@@ -1,5 +1,5 @@
 -- Items that are moved out of the variables.
-use Rattle.std.proofs.Common.{◌≡◌, ℕ, ◌+◌, ◌≤◌, eqb, cond, not, Bool, true, false, List, [], ◌∷◌, ◌++◌, length, map, Option, Some, None, option_map, Result, Ok, Err, IfOk, refl, sym, ap, subst, ◌∙◌, inl, inr, arith}
+use Rattle.std.proofs.Common.{◌≡◌, ℕ, ◌+◌, eqb, cond, not, Bool, true, false, List, [], ◌∷◌, ◌++◌, length, map, Option, Some, None, option_map, Result, Ok, Err, IfOk, refl, sym, ap, subst, ◌∙◌, inl, inr, arith}
 use Rattle.std.proofs.Math.Path.{fun_ext}
 use Rattle.std.proofs.lemmas.Bool.{false≢true}
 use Rattle.std.proofs.lemmas.Bool.Decides.{nat_tests}
@@ -20,7 +20,6 @@ use Rattle.fj_statement.specs.declared.statement.Control.{Control}
 use Rattle.fj_statement.specs.declared.statement.Control.TheVariants as control
 use Rattle.fj_statement.specs.declared.statement.Transfer.{Transfer as Stated}
 use Rattle.fj_statement.specs.declared.statement.Statement.TheVariants.{Transfer}
-use Rattle.fj_store.specs.declared.piece.Piece.{Piece}
 use Rattle.fj_store.specs.declared.piece.Piece.TheVariants.{Places}
 use Rattle.fj_store.specs.declared.run.Run.{Run}
 use Rattle.fj_store.specs.Pieces.{cells_in, sizes}
@@ -28,7 +27,6 @@ use Rattle.fj_store.specs.Places.{same_place, places_of, places_in}
 use Rattle.fj_store.specs.Storage.{Storage, cell_at, emptied, without, values_of}
 use Rattle.fj_store.specs.Tables.{with_element, with_cells}
 use Rattle.fj_store.specs.Variables.{Variables, is_at, undefined_at, with_item, moved_from, moved_of}
-use Rattle.fj_store.proofs.PlaceLemmas.{length-counted_from}
 use Rattle.fj_store.proofs.StoreLemmas.{cells_more}
 use Rattle.fj_store.proofs.TableLemmas.{places_tell, mapped_with, with_twice, with_swap}
 use Rattle.fj_transfer.specs.Printing.{control_of}

@@ -25,7 +25,7 @@ pub(crate) struct Gathered {
 }
 
 /// All places of a variable.
-fn whole(variables: &Variables, var: u32) -> Run
+pub(crate) fn whole(variables: &Variables, var: u32) -> Run
     ensures { places_of result ≡ places_in variables.now var }
 {
     Run {

@@ -5,6 +5,7 @@ mod assigning;
 mod copying;
 mod gathering;
 mod giving;
+mod internal;
 mod laying;
 mod lost;
 mod number;
@@ -16,6 +17,7 @@ mod undefining;
 
 pub use assigning::assign;
 pub use giving::{give_back, give_cells};
+pub use internal::transfer_inside;
 pub use lost::Lost;
 pub use number::{number_given, set_number};
 pub use refusing::refusal;

@@ -86,7 +86,7 @@ impl<'a> Shown<'a> {
 }
 
 /// Whether a transfer is formatted and has items, and no group.
-fn is_of_items(control: &Control) -> bool
+pub(crate) fn is_of_items(control: &Control) -> bool
     ensures { IsTrue result ↔ IsOfItems control.now }
 {
     match control {

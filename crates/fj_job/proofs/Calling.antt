@@ -32,6 +32,7 @@ no_number unit.Star number none e = cc
 no_number (unit.Number n) number none e = cc
 no_number (unit.Held place n) number none e = cc
 no_number (unit.New place n) number none e = cc
+no_number (unit.Internal file) number none e = cc
 
 waits_nowhere : (s : State) (what : Statement) (number : ℕ) → does_without_file what ≡ true → WaitsAt s what number → ⊥
 waits_nowhere s (statement.Assign to from) number e w = w
@@ -86,6 +87,7 @@ module _ (control : ℕ → List Given) (variables : List Variable) (s : State) 
 
   transfer_leaves : (t : Transfer) (m : Moved) (ref : UnitRef) → (transfer_at control variables s t m ref).0.files ≡ s.files
   transfer_leaves t m unit.Star = refl
+  transfer_leaves t m (unit.Internal file) = refl
   transfer_leaves t m (unit.Number n) = unit_leaves t m (found s.units n)
   transfer_leaves t m (unit.Held place n) = unit_leaves t m (found s.units n)
   transfer_leaves t m (unit.New place n) = unit_leaves t m (found s.units n)
@@ -99,6 +101,7 @@ module _ (control : ℕ → List Given) (variables : List Variable) (s : State) 
   own_leaves (statement.Move how (unit.Number n) iostat) e = moves_leave how (found s.units n)
   own_leaves (statement.Move how (unit.Held place n) iostat) e = moves_leave how (found s.units n)
   own_leaves (statement.Move how (unit.New place n) iostat) e = moves_leave how (found s.units n)
+  own_leaves (statement.Move how (unit.Internal file) iostat) e = refl
   own_leaves (statement.Inquire about asked id iostat) e = refl
   own_leaves (statement.Transfer t) e = transfer_leaves t (moved_by variables s t) t.unit
   own_leaves statement.End e = cc

@@ -224,6 +224,7 @@ module _ (control : ℕ → List Given) (variables : List Variable) (s : State) 
   instead_same (statement.CloseUnit (unit.Number n) keep iostat) = anyway_same keep (found s.units n)
   instead_same (statement.CloseUnit (unit.Held place n) keep iostat) = anyway_same keep (found s.units n)
   instead_same (statement.CloseUnit (unit.New place n) keep iostat) = anyway_same keep (found s.units n)
+  instead_same (statement.CloseUnit (unit.Internal file) keep iostat) = refl
   instead_same (statement.WaitFor u id iostat) = refl
   instead_same (statement.Move how u iostat) = refl
   instead_same (statement.Inquire subject asked id iostat) = refl
@@ -233,6 +234,7 @@ module _ (control : ℕ → List Given) (variables : List Variable) (s : State) 
 module _ (control : ℕ → List Given) (variables : List Variable) (s : State) where
   transfer_follows : (t : Transfer) (m : Moved) (ref : UnitRef) → Follows s.output (transfer_at control variables s t m ref).0.output
   transfer_follows t m unit.Star = star_follows control variables s t m (spec_of variables s t m.cells)
+  transfer_follows t m (unit.Internal file) = follows_same _ _ refl
   transfer_follows t m (unit.Number n) = follows_same _ _ (unit_same control variables s t m (found s.units n))
   transfer_follows t m (unit.Held place n) = follows_same _ _ (unit_same control variables s t m (found s.units n))
   transfer_follows t m (unit.New place n) = follows_same _ _ (unit_same control variables s t m (found s.units n))
@@ -243,15 +245,18 @@ module _ (control : ℕ → List Given) (variables : List Variable) (s : State) 
   own_follows (statement.OpenUnit (unit.Number n) spec iostat) = follows_same _ _ (opens_unit_same control variables s (unit.Number n) n spec (found s.units n))
   own_follows (statement.OpenUnit (unit.Held place n) spec iostat) = follows_same _ _ (opens_unit_same control variables s (unit.Held place n) n spec (found s.units n))
   own_follows (statement.OpenUnit (unit.New place n) spec iostat) = follows_same _ _ (opens_unit_same control variables s (unit.New place n) n spec (found s.units n))
+  own_follows (statement.OpenUnit (unit.Internal file) spec iostat) = follows_same _ _ refl
   own_follows (statement.CloseUnit unit.Star keep iostat) = follows_same _ _ refl
   own_follows (statement.CloseUnit (unit.Number n) keep iostat) = follows_same _ _ (closes_same control variables s keep (found s.units n))
   own_follows (statement.CloseUnit (unit.Held place n) keep iostat) = follows_same _ _ (closes_same control variables s keep (found s.units n))
   own_follows (statement.CloseUnit (unit.New place n) keep iostat) = follows_same _ _ (closes_same control variables s keep (found s.units n))
+  own_follows (statement.CloseUnit (unit.Internal file) keep iostat) = follows_same _ _ refl
   own_follows (statement.WaitFor u id iostat) = follows_same _ _ refl
   own_follows (statement.Move how unit.Star iostat) = follows_same _ _ refl
   own_follows (statement.Move how (unit.Number n) iostat) = follows_same _ _ (moves_same control variables s how (found s.units n))
   own_follows (statement.Move how (unit.Held place n) iostat) = follows_same _ _ (moves_same control variables s how (found s.units n))
   own_follows (statement.Move how (unit.New place n) iostat) = follows_same _ _ (moves_same control variables s how (found s.units n))
+  own_follows (statement.Move how (unit.Internal file) iostat) = follows_same _ _ refl
   own_follows (statement.Inquire subject asked id iostat) = follows_same _ _ refl
   own_follows (statement.Transfer t) = transfer_follows t (moved_by variables s t) t.unit
   own_follows statement.End = follows_same _ _ refl

@@ -42,7 +42,7 @@ OneWriteFault = (deck : Deck) (trace : Bool) (files : Files) (old new : List ℕ
 
 -- ---- statements that learn of no fault of the disk
 
--- an assignment, a READ or WRITE on `*`, and one that will be pending
+-- an assignment, a READ or WRITE on `*` or an internal file, and one that will be pending
 abbrev pub does_without_file : Statement → Bool
 does_without_file (statement.Assign to from) = true
 does_without_file (statement.Transfer t) = is_asynchronous t || is_none (number_of t.unit)

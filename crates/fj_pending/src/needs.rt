@@ -1,16 +1,18 @@
 // What a statement needs, and what it may not do beside pending transfers (ISO/IEC 1539-1:2004, 9.5.1.4, 9.6).
-ghost use Rattle.std.specs.Prelude.{◌≡◌, ℕ, ◌++◌, List, Option};
+ghost use Rattle.std.specs.Prelude.{◌≡◌, ℕ, ◌++◌, ◌||◌, List, Option, if◌then◌else◌};
 ghost use Rattle.std.specs.List.{list_any};
 ghost use Rattle.fj_store.specs.Storage.{values_of};
-ghost use Rattle.fj_store.specs.Places.{same_place, is_among, has_twice};
+ghost use Rattle.fj_store.specs.Places.{same_place, is_among, has_twice, places_of};
 ghost use Rattle.fj_book.specs.Prohibitions.{prohibited};
-ghost use Rattle.fj_plain.specs.Needs.{need_by, if_given, subject_places, transfer_need, transfer_places, unit_places, wanted_places};
+ghost use Rattle.fj_plain.specs.Needs.{need_by, if_given, internal_places, subject_places, transfer_need, transfer_places, unit_places, wanted_places};
 ghost use Rattle.fj_pending.specs.Plain.{holders};
 ghost use Rattle.fj_pending.specs.Asks.{IsUnitAsked, unit_in};
 ghost use Rattle.fj_pending.specs.Parts.{need_in};
 
 use crate::pendings::Pendings;
-use crate::places::{any_given, any_if_given, any_in_operand, any_in_transfer, any_wanted};
+use crate::places::{
+    any_given, any_if_given, any_in_operand, any_in_transfer, any_wanted, file_run,
+};
 use crate::whose::number_given;
 use fj_book::{Needs, RunTest};
 use fj_modes::Wanted;
@@ -119,6 +121,20 @@ fn specifies_item(variables: &[Variable], transfer: &Transfer) -> bool
         || is_item(variables, transfer, transfer.iostat)
 }
 
+/// Is it an element of the internal file?
+#[derive(Clone, Copy)]
+struct Inside {
+    run: Run,
+}
+
+impl RunTest for Inside {
+    ghost passes = { λ inside place. is_among (places_of inside.run) place };
+
+    fn test(&self, run: Run) -> bool {
+        run.meets(self.run)
+    }
+}
+
 /// Whether a place that READ or WRITE defines by a specifier passes.
 fn any_specified<T: RunTest>(transfer: &Transfer, test: &T) -> bool
     ensures { result ≡ list_any (T.passes test.now) (if_given transfer.now.id ++ if_given transfer.now.size ++ if_given transfer.now.iostat) }
@@ -128,6 +144,40 @@ fn any_specified<T: RunTest>(transfer: &Transfer, test: &T) -> bool
         || any_if_given(transfer.iostat, test)
 }
 
+/// Whether an element of the internal file passes.
+fn any_of_file<T: RunTest>(variables: &[Variable], unit: UnitRef, test: &T) -> bool
+    ensures { result ≡ list_any (T.passes test.now) (internal_places variables.now unit) }
+{
+    match unit.internal() {
+        Some(file) => test.test(file_run(variables, file)),
+        None => false,
+    }
+}
+
+/// Whether a place passes from which READ or WRITE moves values: an element of an internal file that it reads, or an item that it writes.
+fn any_source<T: RunTest>(variables: &[Variable], transfer: &Transfer, test: &T) -> bool
+    ensures { result ≡ list_any (T.passes test.now)
+        (if transfer.now.input then internal_places variables.now transfer.now.unit else transfer_places variables.now transfer.now) }
+{
+    if transfer.input {
+        any_of_file(variables, transfer.unit, test)
+    } else {
+        any_in_transfer(variables, transfer, test)
+    }
+}
+
+/// Whether a place passes to which it moves them: an item that it reads, or an element of an internal file that it writes.
+fn any_target<T: RunTest>(variables: &[Variable], transfer: &Transfer, test: &T) -> bool
+    ensures { result ≡ list_any (T.passes test.now)
+        (if transfer.now.input then transfer_places variables.now transfer.now else internal_places variables.now transfer.now.unit) }
+{
+    if transfer.input {
+        any_in_transfer(variables, transfer, test)
+    } else {
+        any_of_file(variables, transfer.unit, test)
+    }
+}
+
 /// Whether a place that READ or WRITE references passes.
 fn any_taken<T: RunTest>(variables: &[Variable], transfer: &Transfer, test: &T) -> bool
     ensures { result ≡ list_any (T.passes test.now) (transfer_need variables.now transfer.now).references }
@@ -135,14 +185,30 @@ fn any_taken<T: RunTest>(variables: &[Variable], transfer: &Transfer, test: &T) 
     any_of_unit(transfer.unit, test)
         || any_given(variables, &transfer.rec, test)
         || any_given(variables, &transfer.pos, test)
-        || (!transfer.input && any_in_transfer(variables, transfer, test))
+        || any_source(variables, transfer, test)
 }
 
 /// Whether a place that READ or WRITE defines passes.
 fn any_got<T: RunTest>(variables: &[Variable], transfer: &Transfer, test: &T) -> bool
     ensures { result ≡ list_any (T.passes test.now) (transfer_need variables.now transfer.now).defines }
 {
-    any_specified(transfer, test) || (transfer.input && any_in_transfer(variables, transfer, test))
+    any_specified(transfer, test) || any_target(variables, transfer, test)
+}
+
+/// Whether a place that a specifier of READ or WRITE defines, or an item, is an element of its internal file.
+fn stands_inside(variables: &[Variable], transfer: &Transfer) -> bool
+    ensures { result ≡ (list_any (is_among (internal_places variables.now transfer.now.unit)) (if_given transfer.now.id ++ if_given transfer.now.size ++ if_given transfer.now.iostat)
+        || list_any (is_among (internal_places variables.now transfer.now.unit)) (transfer_places variables.now transfer.now)) }
+{
+    match transfer.unit.internal() {
+        Some(file) => {
+            let inside = Inside {
+                run: file_run(variables, file),
+            };
+            any_specified(transfer, &inside) || any_in_transfer(variables, transfer, &inside)
+        }
+        None => false,
+    }
 }
 
 /// A statement, with what its places and its unit come of. `named` is the unit that the file is connected to that INQUIRE asks about.
@@ -231,7 +297,9 @@ impl<'a> Needs for Parts<'a> {
                 iostat,
             } => asks_twice(asked.as_slice(), *iostat),
             Statement::Transfer(transfer) => {
-                specifies_twice(transfer) || specifies_item(self.variables, transfer)
+                specifies_twice(transfer)
+                    || specifies_item(self.variables, transfer)
+                    || stands_inside(self.variables, transfer)
             }
             _ => false,
         }

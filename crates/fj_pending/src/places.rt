@@ -1,13 +1,14 @@
 // Whether some place that a statement names passes a test.
 ghost use Rattle.std.specs.Prelude.{◌≡◌};
 ghost use Rattle.std.specs.List.{list_any, flat_map};
+ghost use Rattle.fj_store.specs.Places.{places_of};
 ghost use Rattle.fj_plain.specs.Items as plain;
 ghost use Rattle.fj_plain.specs.Needs.{if_given, given_places, group_places, transfer_places, wanted_places};
 
 use crate::runs::run_of;
 use fj_book::RunTest;
 use fj_modes::Wanted;
-use fj_statement::{Control, Operand, Transfer, Variable};
+use fj_statement::{Control, InternalFile, Operand, Transfer, Variable};
 use fj_store::Run;
 use fj_value::Place;
 
@@ -23,6 +24,16 @@ pub(crate) fn any_in_operand<T: RunTest>(
         Operand::Literal { kind: _, value: _ } => false,
         Operand::One(place) => test.test(Run::of_place(*place)),
         Operand::Whole { var } => test.test(run_of(variables, *var)),
+    }
+}
+
+/// The elements of an internal file.
+pub(crate) fn file_run(variables: &[Variable], file: InternalFile) -> Run
+    ensures { places_of result ≡ plain.file_places variables.now file }
+{
+    match file {
+        InternalFile::One(place) => Run::of_place(place),
+        InternalFile::Whole { var } => run_of(variables, var),
     }
 }
 

@@ -1,11 +1,11 @@
 -- The statement at hand of a machine: it has its number once it has begun, and nothing else of it differs from the one in the deck.
-use Rattle.std.proofs.Common.{◌≡◌, ℕ, zero, suc, ◌+◌, Bool, List, [], ◌∷◌, drop, length, slice_get, slice_set, Option, Some, None, unwrap_or, refl, sym, ap, subst, ◌∙◌}
+use Rattle.std.proofs.Common.{◌≡◌, ℕ, zero, suc, ◌+◌, Bool, List, [], ◌∷◌, drop, length, slice_get, slice_set, Option, Some, None, IfSome, unwrap_or, refl, sym, ap, subst, ◌∙◌}
 use Rattle.std.specs.Option.{option_map, option_map_or}
 use Rattle.fj_value.specs.declared.place.Place.{Place}
 use Rattle.fj_value.specs.declared.value.Value.{Value}
 use Rattle.fj_outside.specs.declared.outside.FileStore.{Ghosts}
-use Rattle.fj_statement.specs.Sound.{IsSoundStatement, IsUnit, Variables}
-use Rattle.fj_statement.specs.Units.{begun, held_number, number_due, number_held, numbered as unit_numbered, unit_of, with_number}
+use Rattle.fj_statement.specs.Sound.{IsFile, IsGiven, IsSoundStatement, IsUnit, Variables}
+use Rattle.fj_statement.specs.Units.{begun, held_number, internal_of, number_due, number_held, numbered as unit_numbered, unit_of, with_number}
 use Rattle.fj_statement.specs.declared.deck.Lined.{Lined}
 use Rattle.fj_statement.specs.declared.unit.UnitRef.{UnitRef}
 use Rattle.fj_statement.specs.declared.unit.UnitRef.TheVariants as unit
@@ -96,12 +96,21 @@ is_unit_with vs n unit.Star s = s
 is_unit_with vs n (unit.Number k) s = s
 is_unit_with vs n (unit.Held place k) s = s
 is_unit_with vs n (unit.New place k) s = s
+is_unit_with vs n (unit.Internal file) s = s
 
 star_with : (n : ℕ) (u : UnitRef) → unit_numbered n u ≡ unit.Star → u ≡ unit.Star
 star_with n unit.Star e = refl
 star_with n (unit.Number k) e = cc
 star_with n (unit.Held place k) e = cc
 star_with n (unit.New place k) e = cc
+star_with n (unit.Internal file) e = cc
+
+internal_with : (n : ℕ) (u : UnitRef) → internal_of (unit_numbered n u) ≡ internal_of u
+internal_with n unit.Star = refl
+internal_with n (unit.Number k) = refl
+internal_with n (unit.Held place k) = refl
+internal_with n (unit.New place k) = refl
+internal_with n (unit.Internal file) = refl
 
 pub sound_with : (vs : Variables) (n : ℕ) (w : Statement) → IsSoundStatement vs w → IsSoundStatement vs (with_number n w)
 sound_with vs n (statement.Assign to from) s = s
@@ -113,6 +122,7 @@ sound_with vs n (statement.Inquire (subject.Unit u) asked id iostat) s = record 
 sound_with vs n (statement.Inquire (subject.File name) asked id iostat) s = s
 sound_with vs n (statement.Transfer t) s = record {
   unit_is = is_unit_with vs n t.unit s.unit_is;
+  file_is = subst (λ o. IfSome o (IsFile vs)) (sym (internal_with n t.unit)) s.file_is;
   allowed = record {
     id_needs_asynchronous = s.allowed.id_needs_asynchronous;
     size_needs_advance = s.allowed.size_needs_advance;
@@ -127,6 +137,9 @@ sound_with vs n (statement.Transfer t) s = record {
     group_excludes_items = s.allowed.group_excludes_items;
     star_has_no_record = λ e. s.allowed.star_has_no_record (star_with n t.unit e);
     star_has_no_position = λ e. s.allowed.star_has_no_position (star_with n t.unit e);
+    internal = λ given.
+        let is_internal = s.allowed.internal (subst IsGiven (internal_with n t.unit) given) in
+        record { has_format = is_internal.has_format; has_no_record = is_internal.has_no_record; has_no_position = is_internal.has_no_position; has_no_advance = is_internal.has_no_advance; is_at_once = is_internal.is_at_once };
     read_has_places = s.allowed.read_has_places;
     read_has_widths = s.allowed.read_has_widths;
   };
@@ -147,6 +160,7 @@ unit_back unit.Star = refl
 unit_back (unit.Number m) = refl
 unit_back (unit.Held place m) = refl
 unit_back (unit.New place m) = refl
+unit_back (unit.Internal file) = refl
 
 pub with_held : (w : Statement) → with_number (number_held w) w ≡ w
 with_held (statement.Assign to from) = refl

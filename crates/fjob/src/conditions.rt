@@ -1,7 +1,7 @@
 // The conditions in words, as the table of docs/DECKS.md has them.
 
 /// Each condition with what it says.
-static CONDITIONS: [(i32, &str); 32] = [
+static CONDITIONS: [(i32, &str); 34] = [
     (-1, "the end of the file"),
     (-2, "the end of the record"),
     (
@@ -74,6 +74,14 @@ static CONDITIONS: [(i32, &str); 32] = [
     ),
     (29, "a character string edit descriptor on input"),
     (30, "a record too short for a descriptor under PAD='NO'"),
+    (
+        31,
+        "WRITE that makes more records than its internal file has",
+    ),
+    (
+        32,
+        "READ of an internal file of which an element holds a line feed or a carriage return",
+    ),
 ];
 
 /// A condition in words.

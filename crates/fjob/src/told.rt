@@ -32,7 +32,7 @@ fn rule_words(rule: Rule) -> &'static str {
         Rule::P3 => "P3: the statement references a variable that is not defined",
         Rule::P4 => "P4: ID= is not the identifier of a transfer that is pending on the unit",
         Rule::P5 =>
-            "P5: the statement defines a variable by a specifier, and by another or as an item too",
+            "P5: the statement defines a variable by a specifier, and by another or as an item too, or has an item in its internal file",
     }
 }
 

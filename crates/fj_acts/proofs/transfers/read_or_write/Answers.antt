@@ -7,7 +7,7 @@ use Rattle.fj_plain.specs.Transfers.{moved_in}
 use Rattle.fj_desk.specs.Core.{connected_at}
 use Rattle.fj_desk.specs.Acting.{on_unit, transfer_at}
 use Rattle.fj_acts.specs.State.{core_of}
-use Rattle.fj_acts.proofs.TransferLemmas.{ok_same, hands_nothing, on_number}
+use Rattle.fj_acts.proofs.TransferLemmas.{ok_same, hands_nothing, hands_nothing_inside, on_number}
 use Rattle.fj_acts.proofs.transfers.read_or_write.Goals as goal
 
 pub returns-in-Number-clause-doing : goal.returns-in-Number-clause-doing
@@ -27,3 +27,10 @@ returns-in-Number-clause-front g c = λ tells files.
     let old = c.args.core.now in
     let t = c.args.t.now in
     hands_nothing c.transfer_on.result (g.W.Sink.taken c.args.out.now) (control_by (statement.Transfer t)) variables c.args.line (core_of files old) t (moved_in variables (values_of old.store) t) c.in-Number.number c.in-Number.is
+
+pub returns-in-Err-transfer_inside-clause-front : goal.returns-in-Err-transfer_inside-clause-front
+returns-in-Err-transfer_inside-clause-front g c = λ tells files.
+    let variables = c.args.variables.now in
+    let old = c.args.core.now in
+    let t = c.args.t.now in
+    hands_nothing_inside (g.W.Sink.taken c.args.out.now) (control_by (statement.Transfer t)) variables c.args.line (core_of files old) t (moved_in variables (values_of old.store) t) c.in-Internal.file c.in-Internal.is

@@ -2,8 +2,8 @@ use Rattle.std.proofs.Common.{◌++◌, sym, ap, ◌∙◌}
 use Rattle.fj_store.specs.Places.{has_twice}
 use Rattle.fj_store.specs.Storage.{values_of}
 use Rattle.fj_book.specs.Prohibitions.{defines_twice}
-use Rattle.fj_plain.specs.Needs.{need_by, if_given, transfer_places, wanted_places}
-use Rattle.fj_pending.proofs.Meeting.{alone_twice, items_twice}
+use Rattle.fj_plain.specs.Needs.{need_by, if_given, wanted_places}
+use Rattle.fj_pending.proofs.Meeting.{alone_twice}
 use Rattle.fj_pending.proofs.needs.PartsNeeds.defines_twice.Goals as goal
 
 pub returns-in-Inquire : goal.returns-in-Inquire
@@ -12,11 +12,3 @@ returns-in-Inquire c =
     let iostat = if_given c.in-Inquire.iostat in
     c.asks_twice.ensures ∙ ap (λ asked. has_twice (wanted_places asked ++ iostat)) c.as_slice.ensures ∙ alone_twice (wanted_places c.in-Inquire.asked ++ iostat)
     ∙ sym (ap (λ st. defines_twice (need_by parts.variables.now (values_of parts.store.now) (λ name. parts.named) st)) c.in-Inquire.is)
-
-pub returns-else-specifies_twice : goal.returns-else-specifies_twice
-returns-else-specifies_twice c =
-    let parts = c.args.self.now in
-    let t = c.in-Transfer.transfer in
-    items_twice (if_given t.id ++ if_given t.size ++ if_given t.iostat) (transfer_places parts.variables.now t) c.specifies_twice.result c.specifies_item.result
-    c.specifies_twice.ensures c.if-specifies_twice.false c.specifies_item.ensures
-    ∙ sym (ap (λ st. defines_twice (need_by parts.variables.now (values_of parts.store.now) (λ name. parts.named) st)) c.in-Transfer.is)

@@ -1,0 +1,21 @@
+-- A READ or WRITE on an internal file, by its job.
+use Rattle.std.specs.Prelude.{List, Option}
+use Rattle.fj_value.specs.declared.condition.Condition.{Condition}
+use Rattle.fj_value.specs.declared.place.Place.{Place}
+use Rattle.fj_value.specs.declared.value.Cell.{Cell}
+use Rattle.fj_internal.specs.Internal.{read_inside, written_inside}
+use Rattle.fj_statement.specs.declared.deck.Variable.{Variable}
+use Rattle.fj_store.specs.Variables.{Variables}
+use Rattle.fj_transfer.specs.Printing.{control_of}
+use Rattle.fj_transfer.specs.declared.transfer.Transfer.{Transfer}
+use Rattle.fj_plain.specs.Items.{given_back}
+use Rattle.fj_plain.specs.Telling.{with_size}
+
+-- what a READ of these elements leaves of the variables, which its items are out of, and its condition
+abbrev pub read_by : List Variable → Option Place → List Cell → Transfer → Variables → Variables × Condition
+read_by variables size elements job vars =
+    let taken = read_inside (control_of job.spec.layout) elements job.spec job.moved in (with_size variables size taken.count (given_back variables taken.cells vars), taken.condition)
+
+-- and a WRITE
+abbrev pub written_by : List Variable → List Cell → Transfer → Variables → Variables × Condition
+written_by variables elements job vars = let put = written_inside (control_of job.spec.layout) elements job.spec job.moved in (given_back variables put.elements vars, put.condition)
