@@ -1,0 +1,6 @@
+pub mod Looking
+pub mod Stretches
+pub mod Meeting
+pub mod Losing
+pub mod Worlds
+pub mod Laws
