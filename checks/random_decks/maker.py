@@ -4,6 +4,7 @@ import re
 
 from .connections import NAMES, UNITS, Connections
 from .files import Bytes, Records
+from .inside import Inside
 from .reads import Reads
 from .transfers import Transfers
 from .unformatted import Unformatted
@@ -17,7 +18,7 @@ BLANK_BEHIND = re.compile(r"""(ADVANCE|ASYNCHRONOUS)=(['"])(\w+) \2""")
 ANSWERS = {"T": "Y", "N": "M", "C": "Z"}
 
 
-class Deck(Connections, Transfers, Reads, Unformatted):
+class Deck(Connections, Transfers, Reads, Unformatted, Inside):
     """A deck in the making. `lines` are its statements, each in the deck's words and in Fortran's. The model says what each IOSTAT= is
     (`due`) and each SIZE= of a READ (`counts`), and whether the last statement stops the deck. Those of `own` gfortran counts otherwise, and
     `left_out` has what was not made because it does otherwise (docs/DECISIONS.md)."""
@@ -28,6 +29,7 @@ class Deck(Connections, Transfers, Reads, Unformatted):
         self.counts, self.own, self.left_out = {}, set(), collections.Counter()
         self.star_open, self.catches, self.stopped = False, True, False
         self.variables = Variables(rng)
+        self.begin_inside()
         for name, places in self.variables.arrays.items():
             if len(places) > 1 and self.maybe(0.5):
                 value = assigned(rng, places[0])
@@ -240,6 +242,8 @@ class Deck(Connections, Transfers, Reads, Unformatted):
         choice = self.rng.random()
         if choice < 0.08:
             self.write_star()
+        elif self.maybe(0.08):
+            self.transfer_inside()
         elif choice < 0.14 and self.variables.free():
             self.assign(self.rng.choice(self.variables.free()))
         elif choice < 0.21:
@@ -275,7 +279,7 @@ class Deck(Connections, Transfers, Reads, Unformatted):
     def declarations(self):
         """The lines in front of the statements, of the deck and of Fortran."""
         arrays = [("INTEGER", "S"), ("INTEGER", "N"), ("INTEGER", "J"), ("INTEGER", "R"), ("INTEGER(8)", "M"), ("LOGICAL", "Y"), ("CHARACTER(12)", "Z")]
-        rows = self.variables.declared + [(kind, name, self.used[name]) for kind, name in arrays if name in self.used]
+        rows = self.variables.declared + self.inside_declared() + [(kind, name, self.used[name]) for kind, name in arrays if name in self.used]
         lines = [f"{kind} {name}{f'({count})' if count else ''}" for kind, name, count in rows]
         theirs = [f"{kind} :: {name}{f'({count})' if count else ''}" for kind, name, count in rows]
         groups = [f"NAMELIST /{name}/ {', '.join(members)}" for name, members in GROUPS.items()]
