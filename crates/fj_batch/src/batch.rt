@@ -8,6 +8,7 @@ ghost use Rattle.fj_batch.specs.Bytes.{usage_text, batch_text};
 ghost use Rattle.fj_batch.specs.Members.{EachBecomes, IsNew, HasCome, names_of, greatest_exit};
 ghost use Rattle.fj_batch.specs.Answers.{IsServed, IsAnswered, Took, due};
 
+use crate::hearing::Hears;
 use crate::member::{Member, MemberList};
 use crate::report::{batch_text, greatest_exit, usage};
 use crate::serving::{Serving, serve_members};
@@ -69,13 +70,20 @@ fn conclude<R, D, W: Sink>(alloc: Global, members: &[Member<R, D>], out: &mut W)
 }
 
 /// Runs the members of a batch, each by itself on a thread of its own, as the words ask for. Then it prints what each of them printed behind its name,
-/// in order, and how many ended.
-pub fn run_batch<Rt: Threads + Wait + Sync, R: Source + Send, W: Sink, D: Disk + Send>(
+/// in order, and how many ended. `heard` is told of each member as it ends, on that member's thread.
+pub fn run_batch<
+    Rt: Threads + Wait + Sync,
+    R: Source + Send,
+    W: Sink,
+    D: Disk + Send,
+    H: Hears + Sync,
+>(
     rt: &Rt,
     alloc: Global,
     words: &[String],
     members: &mut MemberList<R, D>,
     out: &mut W,
+    heard: &H,
 ) -> BatchStatus
 where
     D::File: Send,
@@ -94,6 +102,6 @@ where
     let Ok(serving) = Serving::new(alloc, workers) else {
         return BatchStatus::Memory;
     };
-    serve_members(rt, &serving, members);
+    serve_members(rt, &serving, heard, members);
     conclude(alloc, members.as_slice(), out)
 }

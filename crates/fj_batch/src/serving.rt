@@ -6,6 +6,7 @@ ghost use Rattle.fj_batch.specs.Words.{run_words};
 ghost use Rattle.fj_job.specs.Seen.{seen, on_disk};
 ghost use denote.Param.Send.{IsSync, IsSend};
 
+use crate::hearing::Hears;
 use crate::member::{Member, MemberList};
 use crate::words::MOST_MEMBERS;
 use fj_job::run_job;
@@ -54,9 +55,10 @@ impl Serving {
 }
 
 /// Runs a member, which gets its status.
-fn serve<Rt: Threads + Wait + Sync, R: Source + Send, D: Disk + Send>(
+fn serve<Rt: Threads + Wait + Sync, R: Source + Send, D: Disk + Send, H: Hears>(
     rt: &Rt,
     serving: &Serving,
+    heard: &H,
     member: &mut Member<R, D>,
 )
 where
@@ -74,12 +76,14 @@ where
         &mut member.disk,
     );
     member.status = Some(status);
+    heard.ended(member.name.bytes(), status);
 }
 
 /// Runs members, each on a thread of its own.
-fn serve_each<Rt: Threads + Wait + Sync, R: Source + Send, D: Disk + Send>(
+fn serve_each<Rt: Threads + Wait + Sync, R: Source + Send, D: Disk + Send, H: Hears + Sync>(
     rt: &Rt,
     serving: &Serving,
+    heard: &H,
     members: &mut [Member<R, D>],
 )
 where
@@ -93,17 +97,18 @@ where
         members,
         MOST_MEMBERS,
         &|_, member|
-            requires { IsSync Rt.row × IsSend R.row × IsSend D.row × IsSend D.File.row × IsNew D.tells D.held member.now }
+            requires { IsSync Rt.row × IsSync H.row × IsSend R.row × IsSend D.row × IsSend D.File.row × IsNew D.tells D.held member.now }
             ensures { HasCome serving.entry.now.workers member.entry.now member.exit.now (seen R.tells R.left R.count member.entry.now.deck member.exit.now.deck)
                 (seen D.tells (on_disk D.held D.refusals) D.count member.entry.now.disk member.exit.now.disk) }
-        { serve(rt, serving, member) },
+        { serve(rt, serving, heard, member) },
     );
 }
 
 /// The same of those of a `Vec`.
-fn serve_vec<Rt: Threads + Wait + Sync, R: Source + Send, D: Disk + Send>(
+fn serve_vec<Rt: Threads + Wait + Sync, R: Source + Send, D: Disk + Send, H: Hears + Sync>(
     rt: &Rt,
     serving: &Serving,
+    heard: &H,
     members: &mut Vec<Member<R, D>>,
 )
 where
@@ -112,15 +117,16 @@ where
     ensures { EachBecomes (λ old new. HasCome serving.now.workers old new (seen R.tells R.left R.count old.deck new.deck)
         (seen D.tells (on_disk D.held D.refusals) D.count old.disk new.disk)) members.old.items members.new.items }
 {
-    serve_each(rt, serving, members.as_mut_slice());
+    serve_each(rt, serving, heard, members.as_mut_slice());
 }
 
 /// Runs the members of a batch. Takes no memory of its own.
-pub(crate) fn serve_members<Rt: Threads + Wait + Sync, R: Source + Send, D: Disk + Send>(
-    rt: &Rt,
-    serving: &Serving,
-    members: &mut MemberList<R, D>,
-)
+pub(crate) fn serve_members<
+    Rt: Threads + Wait + Sync,
+    R: Source + Send,
+    D: Disk + Send,
+    H: Hears + Sync,
+>(rt: &Rt, serving: &Serving, heard: &H, members: &mut MemberList<R, D>)
 where
     D::File: Send,
     requires { All (IsNew D.tells D.held) members.old }
@@ -128,7 +134,7 @@ where
         (seen D.tells (on_disk D.held D.refusals) D.count old.disk new.disk)) members.old members.new }
 {
     let mut list = mem::replace(members, MemberList::new(serving.alloc)).into_vec();
-    serve_vec(rt, serving, &mut list);
+    serve_vec(rt, serving, heard, &mut list);
     let empty = mem::replace(members, MemberList::from_vec(list));
     empty.into_vec().destroy_empty();
 }

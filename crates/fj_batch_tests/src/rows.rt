@@ -4,7 +4,7 @@ ghost use Rattle.std.specs.FinSet as set;
 ghost use Rattle.fj_outside.specs.FailingDisk.{disk_held};
 ghost use Rattle.fj_batch.specs.Members.{IsNew};
 
-use fj_batch::{BatchStatus, Member, MemberList, member_names, run_batch};
+use fj_batch::{BatchStatus, Member, MemberList, Unheard, member_names, run_batch};
 use fj_job::{Reason, Status};
 use fj_outside::{Disk, FailingDisk, GateDisk, MemoryDisk, MemorySink, MemorySource};
 use fj_value::Text;
@@ -56,7 +56,7 @@ where
     let mut members = MemberList::new(alloc);
     members.push(member_of(alloc, b"A", texts.0, first)?)?;
     members.push(member_of(alloc, b"B", texts.1, second)?)?;
-    let answer = run_batch(rt, alloc, &words, &mut members, out);
+    let answer = run_batch(rt, alloc, &words, &mut members, out, &Unheard);
     Ok((answer, members))
 }
 

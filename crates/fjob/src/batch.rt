@@ -5,7 +5,7 @@ ghost use Rattle.std.specs.FinSet as set;
 ghost use Rattle.fj_batch.specs.Members.{IsNew};
 
 use crate::help::PAGE;
-use fj_batch::{BatchStatus, Member, MemberList, member_names, run_batch};
+use fj_batch::{BatchStatus, Hears, Member, MemberList, member_names, run_batch};
 use fj_exit::exit_status;
 use fj_job::Status;
 use fj_real::{FileSource, PartDisk, RealOutput, RealSink};
@@ -73,12 +73,31 @@ fn status_words(status: Option<Status>) -> &'static str {
     }
 }
 
-/// A line for each member, with its name and how it ended.
-fn tell_members<W: Write, R, D>(err: &mut W, members: &[Member<R, D>]) -> Outcome<()> {
+/// Standard error, on which a line tells of each member as it ends.
+#[derive(Drop)]
+struct Told<'a> {
+    rt: &'a HostRuntime,
+}
+
+impl<'a> Hears for Told<'a> {
+    fn ended(&self, name: &[u8], status: Status) {
+        let _ = tell_member(&mut self.rt.stderr(), name, Some(status));
+    }
+}
+
+/// A line for a member, with its name and how it ended.
+fn tell_member<W: Write>(err: &mut W, name: &[u8], status: Option<Status>) -> Outcome<()> {
+    err.write_all(b"fjob: ")?;
+    err.write_all(name)?;
+    writeln!(err, ": {}", status_words(status))
+}
+
+/// A line for each member that was not begun.
+fn tell_unbegun<W: Write, R, D>(err: &mut W, members: &[Member<R, D>]) -> Outcome<()> {
     for member in members {
-        err.write_all(b"fjob: ")?;
-        err.write_all(member.name.bytes())?;
-        writeln!(err, ": {}", status_words(member.status))?;
+        if member.status.is_none() {
+            tell_member(err, member.name.bytes(), None)?;
+        }
     }
     Ok(())
 }
@@ -89,7 +108,7 @@ fn tell_batch<W: Write, R, D>(
     status: BatchStatus,
     members: &[Member<R, D>],
 ) -> Outcome<()> {
-    tell_members(err, members)?;
+    tell_unbegun(err, members)?;
     match status {
         BatchStatus::Ran { .. } => Ok(()),
         BatchStatus::Usage => write!(
@@ -121,7 +140,8 @@ pub fn batch<Rt: Threads + Wait + Sync>(
 ) -> Result<ExitCode, AllocError> {
     let mut members = members_of(rt, words)?;
     let mut out = RealSink::new(RealOutput::new(rt.clone()?, rt.stdout()));
-    let status = run_batch(threads, rt.alloc(), words, &mut members, &mut out);
+    let heard = Told { rt };
+    let status = run_batch(threads, rt.alloc(), words, &mut members, &mut out, &heard);
     let _ = tell_batch(&mut rt.stderr(), status, members.as_slice());
     Ok(ExitCode::from(batch_exit(status)))
 }
