@@ -46,21 +46,21 @@ SameFound (Err a) (Ok k) = ⊥
 -- ---- the next record
 
 -- a record that begins at the position, by the lines from there on
-abbrev found : Connection → List (List ℕ) → Result AtHand Condition
+abbrev pub found : Connection → List (List ℕ) → Result AtHand Condition
 found c [] = Err EndOfFile
 found c (t ∷ ts) = cond (ltb c.modes.recl (length t)) (Err (Error 15)) (Ok (record { connection = in_record c c.spot.at 0; text = t }))
 
-abbrev found_in : Connection → List ℕ → Result AtHand Condition
+abbrev pub found_in : Connection → List ℕ → Result AtHand Condition
 found_in c b = cond (length b == 0) (Err EndOfFile) (found c (first_line b ∷ []))
 
-found_is : (c : Connection) (b : List ℕ) → found_in c b ≡ found c (lines b)
+pub found_is : (c : Connection) (b : List ℕ) → found_in c b ≡ found c (lines b)
 found_is c [] = refl
 found_is c (y ∷ ys) =
     ap (λ t. cond t (Err EndOfFile) (found c (first_line (y ∷ ys) ∷ []))) (ne_eqb (length (y ∷ ys)) 0 (λ e. absurd (omega (arith, e))))
     ∙ ap (found c) (sym (lines_first (y ∷ ys) (omega arith)))
 
 -- the lines behind the first
-abbrev others : List (List ℕ) → List (List ℕ)
+abbrev pub others : List (List ℕ) → List (List ℕ)
 others [] = []
 others (t ∷ ts) = ts
 
@@ -88,7 +88,7 @@ behind_end c =
 not_direct : (a : Access) → a ≡ Sequential → same_access a Direct ≡ false
 not_direct a e = ap (λ x. same_access x Direct) e
 
-behind_lines : (c : Connection) (t : List ℕ) → c.modes.access ≡ Sequential → let h : AtHand = record { connection = in_record c c.spot.at 0; text = t } in
+pub behind_lines : (c : Connection) (t : List ℕ) → c.modes.access ≡ Sequential → let h : AtHand = record { connection = in_record c c.spot.at 0; text = t } in
     (lines (bytes_behind (behind h)) ≡ others (lines (bytes_behind c)))
 behind_lines c t sequential =
     let x = in_record c c.spot.at 0 in
@@ -98,7 +98,7 @@ behind_lines c t sequential =
     ∙ ap (λ n. lines (behind_line (drop n c.bytes))) (add-zero c.spot.at)
     ∙ others_are (bytes_behind c)
 
-behind_modes : (c : Connection) (t : List ℕ) → c.modes.access ≡ Sequential → let h : AtHand = record { connection = in_record c c.spot.at 0; text = t } in (behind h).modes ≡ c.modes
+pub behind_modes : (c : Connection) (t : List ℕ) → c.modes.access ≡ Sequential → let h : AtHand = record { connection = in_record c c.spot.at 0; text = t } in (behind h).modes ≡ c.modes
 behind_modes c t sequential =
     let h : AtHand = record { connection = in_record c c.spot.at 0; text = t } in
     ap (λ b. (cond b h.connection (past_record h.connection)).modes) (not_direct c.modes.access sequential)
@@ -133,7 +133,7 @@ line_same c d s =
     let R : Result AtHand Condition → Type 0 = λ r. SameFound (found c (lines (bytes_behind c))) r in
     subst Q (sym (found_is c (bytes_behind c))) (subst R (sym (found_is d (bytes_behind d))) (subst P s.lines (found_same c d (lines (bytes_behind c)) s)))
 
-next_is : (c : Connection) → c.modes.access ≡ Sequential → next_record c ≡ line_at c
+pub next_is : (c : Connection) → c.modes.access ≡ Sequential → next_record c ≡ line_at c
 next_is c e = ap (λ b. cond b (record_numbered c c.spot.next_number) (line_at c)) (not_direct c.modes.access e)
 
 next_same : (c d : Connection) → SameAhead c d → SameFound (next_record c) (next_record d)
@@ -154,7 +154,7 @@ pub record SameEnd (e f : Ended) : Type 0 where
   pub count : e.progress.count ≡ f.progress.count
   pub condition : e.condition ≡ f.condition
 
-abbrev GoesAlike : AtHand → AtHand → (Progress → Ended) → (Progress → Ended) → Type 0
+abbrev pub GoesAlike : AtHand → AtHand → (Progress → Ended) → (Progress → Ended) → Type 0
 GoesAlike h k next next' = (at : ℕ) (cells : List Cell) (count : ℕ) → SameEnd (next (standing h at cells count)) (next' (standing k at cells count))
 
 outcome_same : (there advance pad : Bool) (h k : AtHand) (cell : ℕ) (read : ℕ × (List Cell × ℕ)) (at : ℕ) (cells : List Cell) (count : ℕ) (next next' : Progress → Ended) → GoesAlike h k next next'
@@ -169,7 +169,7 @@ outcome_same false true false h k cell read at cells count next next' go = recor
 outcome_same false false true h k cell read at cells count next next' go = record { cells = refl; count = refl; condition = refl }
 outcome_same false false false h k cell read at cells count next next' go = record { cells = refl; count = refl; condition = refl }
 
-field_same : (advance pad : Bool) (width : ℕ) (chars : List ℕ) (cell : ℕ) (r : Result Value Condition) (h k : AtHand) (at : ℕ) (cells : List Cell) (count : ℕ) (next next' : Progress → Ended) → GoesAlike h k next next'
+pub field_same : (advance pad : Bool) (width : ℕ) (chars : List ℕ) (cell : ℕ) (r : Result Value Condition) (h k : AtHand) (at : ℕ) (cells : List Cell) (count : ℕ) (next next' : Progress → Ended) → GoesAlike h k next next'
     → SameEnd (field_read advance pad width chars cell r (standing h at cells count) next) (field_read advance pad width chars cell r (standing k at cells count) next')
 field_same advance pad width chars cell (Err condition) h k at cells count next next' go = record { cells = refl; count = refl; condition = refl }
 field_same advance pad width chars cell (Ok value) h k at cells count next next' go =
@@ -177,7 +177,7 @@ field_same advance pad width chars cell (Ok value) h k at cells count next next'
     outcome_same (length chars == width) advance pad h k cell (read.at, (read.cells, read.count)) at cells count next next' go
 
 -- what a field of a record gives
-abbrev value_in : Edit → EditModes → Kind → ℕ → List ℕ → Result Value Condition
+abbrev pub value_in : Edit → EditModes → Kind → ℕ → List ℕ → Result Value Condition
 value_in e modes kind width chars = without_padding modes.pad width chars (input_field e kind modes.blank_zero (chars ++ replicate (width - length chars) 32))
 
 with_record_same : (r r' : Result AtHand Condition) (h k : AtHand) (at : ℕ) (cells : List Cell) (count : ℕ) (next next' : Progress → Ended) → SameFound r r' → ((m n : AtHand) → SameHands m n → GoesAlike m n next next')

@@ -42,7 +42,7 @@ unfolding read_inside
 refused_is control elements spec moved held =
     sym (ap (λ b. cond b (record { cells = with_undefined moved.cells; count = None; condition = Error 32 }) (taken_by (transfer_by control (file_of bare (text_of (records_of elements))) spec moved))) held)
 
-is_end : (c : ℕ) → (c ≡ 10) ⊎ (c ≡ 13) → is_line_end c ≡ true
+pub is_end : (c : ℕ) → (c ≡ 10) ⊎ (c ≡ 13) → is_line_end c ≡ true
 is_end c (inl e) = ap is_line_end e
 is_end c (inr e) = ap is_line_end e
 
@@ -60,7 +60,7 @@ no_return : (line : List ℕ) (n : ℕ) → All (λ c. (c ≢ 10) × (c ≢ 13))
 no_return [] n h is = λ e. cc
 no_return (x ∷ xs) n h is = (h n 0 (omega arith)).1
 
-plain : (line : List ℕ) → HasNoLineEnd line → IsPlain line
+pub plain : (line : List ℕ) → HasNoLineEnd line → IsPlain line
 plain line h = (λ k d low. (h k d low).0, no_return line (length line - 1) h refl)
 
 pub reads_alike : ReadsLikeAFile

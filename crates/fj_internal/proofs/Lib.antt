@@ -1,9 +1,10 @@
 pub mod Alike
+pub mod ByRecords
 pub mod Cutting
 pub mod Fitting
-pub mod Joined
+pub mod Heads
 pub mod KeptKinds
 pub mod LawProofs
-pub mod Opening
 pub mod Reading
+pub mod Stepping
 pub mod Writing

@@ -51,16 +51,16 @@ explicit_same c d advance modes control moved (Err a) (Err b) s = ways_same _ _ 
 explicit_same c d advance modes control moved (Ok h) (Err b) s = absurd s
 explicit_same c d advance modes control moved (Err a) (Ok k) s = absurd s
 
-first_is : (c : Connection) → c.modes.access ≡ Sequential → c.spot.within ≡ Outside → first_record c ≡ line_at c
+pub first_is : (c : Connection) → c.modes.access ≡ Sequential → c.spot.within ≡ Outside → first_record c ≡ line_at c
 first_is c access within =
     ap (λ (a : Access). cond (same_access a Direct) (record_numbered c c.spot.next_number) (cond (is_reading c.spot.within) (rest_at c) (line_at c))) access
     ∙ ap (λ (w : Within). cond (is_reading w) (rest_at c) (line_at c)) within
 
-records_are : (c : Connection) → c.spot.within ≡ Outside → records_to_come c ≡ up_to_excess c.modes.recl (lines (bytes_behind c))
+pub records_are : (c : Connection) → c.spot.within ≡ Outside → records_to_come c ≡ up_to_excess c.modes.recl (lines (bytes_behind c))
 records_are c within =
     ap (λ (w : Within). cond (is_reading w) (cond (rest_exceeds c) [] (rest_of_record c ∷ up_to_excess c.modes.recl (lines (bytes_behind (past_record c))))) (up_to_excess c.modes.recl (lines (bytes_behind c)))) within
 
-condition_is : (c : Connection) → c.spot.within ≡ Outside → condition_to_come c ≡ behind_them c.modes.recl (lines (bytes_behind c))
+pub condition_is : (c : Connection) → c.spot.within ≡ Outside → condition_to_come c ≡ behind_them c.modes.recl (lines (bytes_behind c))
 condition_is c within =
     ap (λ (w : Within). cond (is_reading w) (cond (rest_exceeds c) (Error 15) (behind_them c.modes.recl (lines (bytes_behind (past_record c))))) (behind_them c.modes.recl (lines (bytes_behind c)))) within
 
@@ -126,7 +126,7 @@ begins_here c spec after rec pos =
     ap (λ b. cond b (Err (Error 20)) (placed c spec.rec spec.pos)) after ∙ ap (λ r. placed c r spec.pos) rec ∙ ap (placed c None) pos
 
 -- a READ by the lines ahead, of a connection that stands between records
-read_is : (control : ℕ → List Given) (c : Connection) (spec : TransferSpec) (moved : Moved) → StandsAtRecords c → is_forbidden c.modes.action true ≡ false → IsInput spec
+pub read_is : (control : ℕ → List Given) (c : Connection) (spec : TransferSpec) (moved : Moved) → StandsAtRecords c → is_forbidden c.modes.action true ≡ false → IsInput spec
     → transfer_by control c spec moved ≡ cond (differ true (is_formatted spec.layout)) (in_error c spec.input moved.cells (Error 16)) (read_by spec.layout control c c spec (changed spec.edit c.modes.edit) moved)
 unfolding transfer_by
 read_is control c spec moved o allowed is =

@@ -1,3 +1,4 @@
 pub mod Internal
 pub mod Carried
 pub mod InternalLaws
+pub mod Records

@@ -1,9 +1,11 @@
 // The elements of an internal file as its records.
 ghost use Rattle.std.specs.Prelude.{◌≡◌, ◌≤◌, length};
-ghost use Rattle.fj_internal.specs.Internal.{characters_of, holds_line_end, record_length, set_first};
+ghost use Rattle.std.specs.List.{list_any};
+ghost use Rattle.fj_internal.specs.Internal.{characters_of, holds_line_end, records_of, record_length, set_first};
 
 use fj_list::{Cells, define};
 use fj_value::{Cell, Kind, Value};
+use memchr::memchr2;
 
 /// The characters of an element.
 pub fn characters(cell: &Cell) -> &[u8]
@@ -16,10 +18,28 @@ pub fn characters(cell: &Cell) -> &[u8]
 }
 
 /// Whether a line feed or a carriage return is among characters.
-pub fn holds_line_end(chars: &[u8]) -> bool
+fn holds_line_end(chars: &[u8]) -> bool
     ensures { result ≡ holds_line_end chars.now }
 {
-    chars.iter().any(|c| *c == b'\n' || *c == b'\r')
+    match memchr2(b'\n', b'\r', chars) {
+        Some(_) => true,
+        None => false,
+    }
+}
+
+/// Whether an element holds a line feed or a carriage return.
+#[tactic(auto, using(crate::proofs::Heads::ends_here, crate::proofs::Heads::ends_behind, crate::proofs::Heads::no_ends))]
+pub fn any_line_end(elements: &[Cell]) -> bool
+    ensures { result ≡ list_any holds_line_end (records_of elements.now) }
+{
+    let mut rest = elements;
+    while let Some((element, behind)) = rest.split_first() {
+        if holds_line_end(characters(element)) {
+            return true;
+        }
+        rest = behind;
+    }
+    false
 }
 
 /// The length of the elements.

@@ -1,11 +1,13 @@
 //! READ and WRITE on internal files, whose records are the elements of a character variable (ISO/IEC 1539-1:2004, 9.3).
 #![tactic(auto)]
 
+mod ahead;
 mod elements;
-mod file;
+mod fields;
 mod laws;
 mod lines;
 mod read;
+mod reader;
 #[cfg(test)]
 mod tests;
 mod write;

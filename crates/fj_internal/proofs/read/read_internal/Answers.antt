@@ -1,26 +1,32 @@
-use Rattle.std.proofs.Common.{◌≡◌, List, ℕ, true, false, sym, ap, subst, ◌∙◌}
-use Rattle.std.specs.Prelude.{IfOk, IfSome, is_none}
+use Rattle.std.proofs.Common.{◌≡◌, List, ap, sym, subst, ◌∙◌}
+use Rattle.std.specs.Prelude.{IfOk}
 use Rattle.std.specs.List.{list_any}
-use Rattle.fj_list.specs.ListText.{text_of}
+use Rattle.fj_value.specs.declared.value.Cell.{Cell}
+use Rattle.fj_modes.specs.Modes.{usual_edit}
+use Rattle.fj_transfer.specs.Change.{changed}
 use Rattle.fj_transfer.specs.Printing.{control_of}
 use Rattle.fj_internal.specs.Carried.{taken}
 use Rattle.fj_internal.specs.Internal.{Taken, records_of, holds_line_end}
-use Rattle.fj_internal.proofs.LawProofs.{read_is, refused_is}
+use Rattle.fj_internal.specs.Records.{records_taken}
+use Rattle.fj_internal.proofs.ByRecords.{records_are_taken}
+use Rattle.fj_internal.proofs.LawProofs.{refused_is}
 use Rattle.fj_internal.proofs.read.read_internal.Goals as goal
 
-pub returns-in-Some-2-clause-taken : goal.returns-in-Some-2-clause-taken
-returns-in-Some-2-clause-taken c =
+pub returns-then-any_line_end-clause-taken : goal.returns-then-any_line_end-clause-taken
+returns-then-any_line_end-clause-taken c =
     let job = c.args.job.now in
     let elements = c.args.elements.now in
-    let none : list_any holds_line_end (records_of elements) ≡ false = sym c.in_ok-text.ensures.held ∙ ap (λ o. is_none o) c.in-Some.is in
-    let T : _ → Type 0 = λ o. IfSome o (λ (t : List ℕ). t ≡ text_of (records_of c.args.elements.now)) in
-    let text : c.in-Some.text ≡ text_of (records_of elements) = subst T c.in-Some.is c.in_ok-text.ensures.text in
-    let P : Taken → Type 0 = λ q. IfOk c.read_text.result (λ condition. taken c.read_text.new.job condition ≡ q) in
-    subst P (read_is (control_of job.spec.layout) elements job.spec job.moved c.bytes.result.now none (c.bytes.ensures ∙ text)) c.read_text.ensures.taken
+    let same : list_any holds_line_end (records_of c.as_slice-elements.result.now) ≡ list_any holds_line_end (records_of elements) =
+    ap (λ (cells : List Cell). list_any holds_line_end (records_of cells)) c.as_slice-elements.ensures in
+    c.refuse.ensures.taken ∙ refused_is (control_of job.spec.layout) elements job.spec job.moved (sym same ∙ sym c.any_line_end.ensures ∙ c.if-any_line_end.true)
 
-pub returns-in-None-clause-taken : goal.returns-in-None-clause-taken
-returns-in-None-clause-taken c =
+pub returns-clause-taken : goal.returns-clause-taken
+returns-clause-taken c =
     let job = c.args.job.now in
     let elements = c.args.elements.now in
-    let held : list_any holds_line_end (records_of elements) ≡ true = sym c.in_ok-text.ensures.held ∙ ap (λ o. is_none o) c.in-None.is in
-    c.refuse.ensures.taken ∙ refused_is (control_of job.spec.layout) elements job.spec job.moved held
+    let same : list_any holds_line_end (records_of c.as_slice-elements.result.now) ≡ list_any holds_line_end (records_of elements) =
+    ap (λ (cells : List Cell). list_any holds_line_end (records_of cells)) c.as_slice-elements.ensures in
+    let T : Taken → Type 0 = λ d. IfOk c.read_records.result (λ condition. taken c.read_records.new.job condition ≡ d) in
+    subst T (ap (λ (cells : List Cell). records_taken job.spec.layout (control_of job.spec.layout) job.spec.advance (changed job.spec.edit usual_edit) job.moved (records_of cells)) c.as_slice-elements.ensures
+    ∙ records_are_taken (control_of job.spec.layout) elements job.spec job.moved (sym same ∙ sym c.any_line_end.ensures ∙ c.if-any_line_end.false) c.requires)
+    c.read_records.ensures.taken
