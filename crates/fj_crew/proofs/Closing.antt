@@ -5,14 +5,14 @@ use Rattle.fj_slot.specs.Serving.{Meaning}
 use Rattle.fj_slot.specs.Ledger.{Ledger}
 use Rattle.fj_world.specs.Conduct.{Conduct}
 use Rattle.fj_world.specs.Rack.{Rack}
-use Rattle.fj_world.specs.Keeping.{SomeStopped}
+use Rattle.fj_world.specs.Keeping.{CanGoOn, SomeStopped}
 use Rattle.fj_world.specs.Alone as alone
 use Rattle.fj_world.proofs.Places.{slice_get_in, same_some}
 use Rattle.fj_queue.specs.declared.view.Agenda.{Agenda}
 use Rattle.fj_queue.specs.declared.seats.SubmitterOf.{SubmitterOf}
 use Rattle.fj_queue.specs.Knows.{knows}
 use Rattle.fj_queue.specs.Tokens.{IsLast}
-use Rattle.fj_crew.specs.Fits.{SeatsSame, OwesAsSaid, SomeTold}
+use Rattle.fj_crew.specs.Fits.{SeatsSame, SeatsGoOn, OwesAsSaid, SomeTold}
 use Rattle.fj_slot.specs.Sound.{IsCounted}
 use Rattle.fj_crew.specs.Plan.{Opened, Shut, NumbersGoOn}
 use Rattle.fj_crew.proofs.Looking.{code_halts}
@@ -75,3 +75,11 @@ module _ {C G J A P T R : Type 0} (m : Meaning G J A P T R) where
   owes_at_last c script seats closed shut owes k l used e =
       let x = last_of seats closed.slots shut k l e in
       omega (arith, owes k x.0 used x.1, x.2.jobs, x.2.told_is)
+
+  pub goes_on_at_last : {S : Type 0} (c : Conduct S T R) (old new : S) (seats : List (SubmitterOf C G T)) (closed : Rack G J A)
+      → Shut m [] seats closed.slots → SeatsGoOn c old new seats → CanGoOn c old new closed
+  goes_on_at_last c old new seats closed shut h = record {
+    idle = h.idle;
+    uses = h.uses;
+    few = λ k l e. let x = last_of seats closed.slots shut k l e in omega (arith, h.few k x.0 x.1, x.2.jobs);
+  }

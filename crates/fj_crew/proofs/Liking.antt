@@ -151,6 +151,11 @@ module _ {S C G J A P T R L : Type 0} (m : Meaning G J A P T R) (c : Conduct S T
     owed = λ k w used ew. let z = folded.each k w ew in omega (arith, h.owed k z.0 used z.1, z.2.numbers.sent_is, z.2.numbers.heard_is);
     answered = λ all going. answered_like d e folded (h.answered (answered_like a b hired all) going);
     stopped = λ was is. told_like d e folded (h.stopped was is);
+    again = record {
+      idle = h.again.idle;
+      uses = h.again.uses;
+      few = λ k w ew. let z = folded.each k w ew in omega (arith, h.again.few k z.0 z.1, z.2.numbers.sent_is);
+    };
     leads = h.leads;
     alone = λ begun. goes_like m c _ _ script' _ d e (answered_like a b hired) folded (h.alone (begun_like m c script a b hired begun));
     gave_up = λ begun going over. gave_up_like m c _ _ _ script script' d e (answered_like a b hired) folded (h.gave_up (begun_like m c script a b hired begun) going over);

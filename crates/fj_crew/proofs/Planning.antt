@@ -1,5 +1,5 @@
 -- The plans: the slots are sound for them, and what is closed fits the script served alone.
-use Rattle.std.proofs.Common.{◌≡◌, ◌⊎◌, ℕ, zero, suc, ◌+◌, ◌-◌, ◌≤◌, Bool, true, false, List, [], ◌∷◌, ◌++◌, length, map, take, Option, Some, None, is_some, slice_get, option_map, refl, sym, ap, ◌∙◌, subst, inl, inr, arith}
+use Rattle.std.proofs.Common.{◌≡◌, ◌⊎◌, ℕ, zero, suc, ◌+◌, ◌-◌, ◌≤◌, Bool, true, false, List, [], ◌∷◌, ◌++◌, length, map, take, Option, Some, None, IsSome, is_some, slice_get, option_map, refl, sym, ap, ◌∙◌, subst, inl, inr, arith}
 use Rattle.std.proofs.lemmas.List.{length-append}
 use Rattle.std.proofs.lemmas.Bool.{cases_lt}
 use Rattle.std.proofs.lemmas.Option.{slice_get_within}
@@ -102,6 +102,15 @@ module _ {G J A P T R : Type 0} (m : Meaning G J A P T R) where
       ∙ ap (λ n. Some (let z : PlainSlot P T = record { start = q.start; jobs = q.jobs; told = n } in z)) (fit.told refl) in
       both_are (λ q qs. q ∷ qs) (told_slot m l) (told_slots m ls) q qs first (slots_told ls qs (omega (arith, long)) (λ k x y ex ey. fits (suc k) x y ex ey))
 
+  -- slots that fit plain ones are sound for what these are
+  pub fitting_sound : (qs : List (PlainSlot P T)) (rack : Rack G J A) → SlotsFit m qs rack → AllSound m rack.slots
+  fitting_sound qs rack fits k l e s ts is jobs =
+      let q = slice_get_in qs k (omega (arith, fits.same, slice_get_within rack.slots k l e)) in
+      let sound = (fits.each k q.0 l q.1 e).sound in
+      let start : q.0.start ≡ s = same_some (sym sound.start ∙ is) in
+      let same : q.0.jobs ≡ ts = same_some (sym (jobs_told l.jobs q.0.jobs sound.jobs) ∙ jobs_told l.jobs ts jobs) in
+      subst (λ x. IsSound m x ts l) start (subst (λ xs. IsSound m q.0.start xs l) same sound)
+
   -- what was told is done, as the submitter knew
   done_by : (q : PlainSlot P T) (l : Ledger G J A) (v : View G T) → IsLast m v l → HasReached q v → q.told ≤ l.done
   done_by q l v last (inl (all, low)) = let told = last.answered all in omega (arith, told, last.told_is, low)
@@ -135,7 +144,7 @@ module _ {S G J A P T R : Type 0} (m : Meaning G J A P T R) (c : Conduct S T R) 
       ∙ ap (λ o. Some (agenda_with m c (option_map (λ z. z.jobs) o) l)) later
 
   -- each slot is sound for its plan
-  pub plan_sound : (script : S) (slots : List (Ledger G J A)) → AllSound m slots → ((k : ℕ) (l : Ledger G J A) → slice_get slots k ≡ Some l → IsCounted m l) → (k : ℕ) (l : Ledger G J A) → slice_get slots k ≡ Some l → IsFor m (plan_at m c script slots k) l
+  pub plan_sound : (script : S) (slots : List (Ledger G J A)) → (IsSome (c.state script) → AllSound m slots) → ((k : ℕ) (l : Ledger G J A) → slice_get slots k ≡ Some l → IsCounted m l) → (k : ℕ) (l : Ledger G J A) → slice_get slots k ≡ Some l → IsFor m (plan_at m c script slots k) l
   plan_sound script slots sound counted k l found = elim (option_cases (begun m c script slots)) [
     | inl none ↦ λ p at.
         let is : agenda_with m c None l ≡ p = same_some (ap (λ w. Some (agenda_with m c (jobs_in m c w (c.left script) k) l)) (sym none) ∙ sym (plan_there script slots k l found) ∙ at) in
@@ -156,7 +165,7 @@ module _ {S G J A P T R : Type 0} (m : Meaning G J A P T R) (c : Conduct S T R) 
               let jobs : later.0.jobs ≡ js = same_some named in
               let start : here.0.start ≡ s = same_some (sym is.start ∙ state) in
               let long = length_mapped l.jobs here.0.jobs m.task is.jobs in
-              let mine = sound k l found here.0.start here.0.jobs is.start is.jobs in
+              let mine = sound (subst (λ o. IsSome o) (sym b.2) refl) k l found here.0.start here.0.jobs is.start is.jobs in
               let first : take (length l.jobs) later.0.jobs ≡ here.0.jobs = ap (λ n. take n later.0.jobs) long ∙ ap (take (length here.0.jobs)) later.2.jobs ∙ take_all here.0.jobs later.2.more in
               subst (λ z. IsSoundFor m s z l) jobs record {
                 within = omega (arith, long, ap length later.2.jobs, length-append here.0.jobs later.2.more);

@@ -3,7 +3,7 @@ use Rattle.std.specs.Prelude.{◌≡◌, ◌≢◌, ◌⊎◌, ℕ, ◌+◌, ◌
 use Rattle.fj_slot.specs.Serving.{Meaning}
 use Rattle.fj_world.specs.declared.ask.Ask.{Ask}
 use Rattle.fj_world.specs.declared.ask.Ask.TheVariants.{Settle}
-use Rattle.fj_world.specs.Conduct.{Conduct, IsAsk}
+use Rattle.fj_world.specs.Conduct.{Conduct, Idle, IsAsk}
 use Rattle.fj_world.specs.Plain.{Plain, PlainSlot, asked_next, after}
 use Rattle.fj_world.specs.Losing.{before_ask, GaveUp}
 use Rattle.fj_queue.specs.declared.view.View.{View}
@@ -49,6 +49,12 @@ module _ {C G T : Type 0} where
   -- so few jobs are submitted
   abbrev pub FewJobs : {S R : Type 0} → Conduct S T R → S → List (SubmitterOf C G T) → Type 0
   FewJobs c script seats = (k : ℕ) (s : SubmitterOf C G T) → slice_get seats k ≡ Some s → (knows s).sent + c.left script < 2 ^ 62
+
+  -- the script may be served again: no ask is due, it uses as many slots, and few jobs are submitted
+  pub record SeatsGoOn {S R : Type 0} (c : Conduct S T R) (old new : S) (seats : List (SubmitterOf C G T)) : Type 0 where
+    pub idle : c.due new ≡ Idle
+    pub uses : c.uses new ≡ c.uses old
+    pub few : FewJobs c new seats
 
   -- each job that was told is done
   abbrev pub AllAnswered : List (SubmitterOf C G T) → Type 0

@@ -11,7 +11,7 @@ use Rattle.fj_queue.specs.declared.seats.HandOf.{HandOf}
 use Rattle.fj_queue.specs.Knows.{knows, Serves}
 use Rattle.fj_queue.specs.Tokens.{Keeps}
 use Rattle.fj_crew.specs.Seats.{Paired}
-use Rattle.fj_crew.specs.Fits.{NoJobs, SeatsSame, OwesAsSaid, FewJobs, AllAnswered, SomeTold, Begun, CrewGoes, CrewGaveUp}
+use Rattle.fj_crew.specs.Fits.{NoJobs, SeatsSame, SeatsGoOn, OwesAsSaid, FewJobs, AllAnswered, SomeTold, Begun, CrewGoes, CrewGaveUp}
 
 module _ {C E T L : Type 0} where
   -- each hand is of the queue at its place
@@ -62,6 +62,7 @@ module _ {S C G J A P T R L : Type 0} (m : Meaning G J A P T R) (c : Conduct S T
     pub owed : OwesAsSaid c new seats'
     pub answered : AllAnswered seats → c.over new ≡ false → AllAnswered seats'
     pub stopped : c.stopped script ≡ false → c.stopped new ≡ true → SomeTold seats'
+    pub again : SeatsGoOn c script new seats'
     pub leads : LeadsTo c.leads script new
     pub alone : (b : Begun m c script seats) → CrewGoes m c (c.stopped script) (AllAnswered seats) (asked_next m c b.state b.slots) (c.left script) new Finished seats'
     pub gave_up : (b : Begun m c script seats) → c.over script ≡ false → c.over new ≡ true → CrewGaveUp m c (AllAnswered seats) (c.left script) b.state b.slots script new seats'

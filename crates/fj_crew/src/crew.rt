@@ -1,5 +1,5 @@
 //! A script served over queues, and the slots that come back.
-ghost use Rattle.std.specs.Prelude.{true, false, ◌≡◌, ◌+◌, ◌<◌, ◌≤◌, ◌^◌, ℕ, List, length, Some, IfOk, IfErr};
+ghost use Rattle.std.specs.Prelude.{true, false, ◌≡◌, ◌+◌, ◌<◌, ◌≤◌, ◌^◌, ℕ, List, length, Some, IsSome, IfOk, IfErr};
 ghost use Rattle.fj_world.specs.Conduct.{Idle};
 ghost use Rattle.fj_world.specs.Leading.{LeadsTo};
 ghost use Rattle.fj_world.specs.Rack.{At};
@@ -7,7 +7,7 @@ ghost use Rattle.fj_world.specs.Plain.{PlainSlot, asked_next};
 ghost use Rattle.fj_world.specs.Fits.{SlotsFit};
 ghost use Rattle.fj_world.specs.Alone.{AllHome, OwesAsSaid, ServedAlone};
 ghost use Rattle.fj_world.specs.Losing.{WasLost};
-ghost use Rattle.fj_world.specs.Keeping.{AllCounted, SomeStopped};
+ghost use Rattle.fj_world.specs.Keeping.{AllCounted, CanGoOn, SomeStopped};
 ghost use Rattle.fj_crew.specs.Plan.{AllSound, NumbersGoOn, SameNumbers};
 
 use crate::floor::employ;
@@ -45,13 +45,16 @@ where
     requires owed { OwesAsSaid S.conduct script.old slots }
     requires home { AllHome slots }
     requires counted { AllCounted S.Gear.meaning slots }
-    requires sound { AllSound S.Gear.meaning slots.slots }
+    requires sound { IsSome (S.conduct.state script.old) → AllSound S.Gear.meaning slots.slots }
     ensures home { IfOk result (λ it. AllHome it) }
     ensures keeps { IfOk result (λ it. NumbersGoOn slots it) }
     ensures counted { IfOk result (λ it. AllCounted S.Gear.meaning it) }
 
     // The jobs submitted and told are those of which the script says so.
     ensures owed { IfOk result (λ it. OwesAsSaid S.conduct script.new it) }
+
+    // It may be called once more, over these slots.
+    ensures again { IfOk result (λ it. CanGoOn S.conduct script.old script.new it) }
 
     // Nothing but its calls was done with the script.
     ensures leads { IfOk result (λ it. LeadsTo S.conduct.leads script.old script.new) }

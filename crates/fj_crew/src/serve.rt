@@ -6,7 +6,7 @@ ghost use Rattle.fj_world.specs.declared.ask.Ask.TheVariants.{Finished};
 ghost use Rattle.fj_world.specs.Plain.{asked_next};
 ghost use Rattle.fj_crew.specs.Seats.{Paired};
 ghost use Rattle.fj_crew.specs.Team.{AllServe};
-ghost use Rattle.fj_crew.specs.Fits.{NoJobs, SeatsSame, OwesAsSaid, FewJobs, AllAnswered, SomeTold, Begun, CrewGoes, CrewGaveUp};
+ghost use Rattle.fj_crew.specs.Fits.{NoJobs, SeatsSame, SeatsGoOn, OwesAsSaid, FewJobs, AllAnswered, SomeTold, Begun, CrewGoes, CrewGaveUp};
 
 use crate::seats::{settle_at, submit_at};
 use crate::signals::Signals;
@@ -38,6 +38,7 @@ pub(crate) fn serve<S: Script, R: Wait>(
     ensures owed { OwesAsSaid S.conduct script.new seats.new.items }
     ensures answered { AllAnswered seats.old.items → S.conduct.over script.new ≡ false → AllAnswered seats.new.items }
     ensures stopped { S.conduct.stopped script.old ≡ false → S.conduct.stopped script.new ≡ true → SomeTold seats.new.items }
+    ensures again { SeatsGoOn S.conduct script.old script.new seats.new.items }
     ensures leads { LeadsTo S.conduct.leads script.old script.new }
     ensures alone { (b : Begun S.Gear.meaning S.conduct script.old seats.old.items)
         → CrewGoes S.Gear.meaning S.conduct (S.conduct.stopped script.old) (AllAnswered seats.old.items) (asked_next S.Gear.meaning S.conduct b.state b.slots) (S.conduct.left script.old) script.new Finished seats.new.items }

@@ -1,5 +1,5 @@
 //! A script served with workers, or alone where there are none.
-ghost use Rattle.std.specs.Prelude.{true, false, ◌≡◌, ◌+◌, ◌<◌, ◌≤◌, ◌^◌, ℕ, List, length, Some};
+ghost use Rattle.std.specs.Prelude.{true, false, ◌≡◌, ◌+◌, ◌<◌, ◌≤◌, ◌^◌, ℕ, List, length, Some, IsSome};
 ghost use Rattle.fj_world.specs.Conduct.{Idle};
 ghost use Rattle.fj_world.specs.Leading.{LeadsTo};
 ghost use Rattle.fj_world.specs.Rack.{At};
@@ -7,7 +7,7 @@ ghost use Rattle.fj_world.specs.Plain.{PlainSlot, asked_next};
 ghost use Rattle.fj_world.specs.Fits.{SlotsFit};
 ghost use Rattle.fj_world.specs.Alone.{AllHome, OwesAsSaid, ServedAlone};
 ghost use Rattle.fj_world.specs.Losing.{WasLost};
-ghost use Rattle.fj_world.specs.Keeping.{AllCounted, SomeStopped};
+ghost use Rattle.fj_world.specs.Keeping.{AllCounted, CanGoOn, SomeStopped};
 ghost use Rattle.fj_crew.specs.Plan.{AllSound, NumbersGoOn};
 
 use crate::crew::run_crew;
@@ -38,13 +38,16 @@ where
     requires owed { OwesAsSaid S.conduct script.old slots.old }
     requires home { AllHome slots.old }
     requires counted { AllCounted S.Gear.meaning slots.old }
-    requires sound { AllSound S.Gear.meaning slots.old.slots }
+    requires sound { IsSome (S.conduct.state script.old) → AllSound S.Gear.meaning slots.old.slots }
     ensures home { AllHome slots.new }
     ensures keeps { NumbersGoOn slots.old slots.new }
     ensures counted { AllCounted S.Gear.meaning slots.new }
 
     // The jobs submitted and told are those of which the script says so.
     ensures owed { OwesAsSaid S.conduct script.new slots.new }
+
+    // It may be called once more, over these slots.
+    ensures again { CanGoOn S.conduct script.old script.new slots.new }
 
     // Nothing but its calls was done with the script.
     ensures leads { LeadsTo S.conduct.leads script.old script.new }

@@ -1,11 +1,11 @@
 -- What every event keeps, also where no meaning is told.
-use Rattle.std.specs.Prelude.{◌≡◌, ℕ, ◌≤◌, true, List, ◌++◌, length, Some, is_some, slice_get}
+use Rattle.std.specs.Prelude.{◌≡◌, ℕ, ◌+◌, ◌<◌, ◌≤◌, ◌^◌, true, List, ◌++◌, length, Some, is_some, slice_get}
 use Rattle.fj_slot.specs.Ledger.{Ledger}
 use Rattle.fj_slot.specs.Serving.{Meaning}
 use Rattle.fj_slot.specs.Sound.{IsCounted}
 use Rattle.fj_world.specs.declared.busy.Busy.{Busy}
 use Rattle.fj_world.specs.Alone.{OwesAsSaid}
-use Rattle.fj_world.specs.Conduct.{Conduct}
+use Rattle.fj_world.specs.Conduct.{Conduct, Idle}
 use Rattle.fj_world.specs.Rack.{Rack}
 use Rattle.fj_world.specs.Scene.{Scene}
 
@@ -45,3 +45,9 @@ pub record Keeps {S G J A P T R : Type 0} (m : Meaning G J A P T R) (c : Conduct
   pub counted : AllCounted m old.rack → HeldCounted m old → AllCounted m new.rack × HeldCounted m new
   -- a script is told a stop of a slot that has stopped
   pub stopped : (c.stopped old.script ≡ true → SomeStopped old.rack) → c.stopped new.script ≡ true → SomeStopped new.rack
+
+-- The script may be served again over the slots that were left: no ask is due, it uses as many slots, and jobs can be numbered for the asks left.
+pub record CanGoOn {S G J A T R : Type 0} (c : Conduct S T R) (old new : S) (rack : Rack G J A) : Type 0 where
+  pub idle : c.due new ≡ Idle
+  pub uses : c.uses new ≡ c.uses old
+  pub few : (at : ℕ) (l : Ledger G J A) → slice_get rack.slots at ≡ Some l → length l.jobs + c.left new < 2 ^ 62

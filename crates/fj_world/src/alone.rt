@@ -6,7 +6,7 @@ ghost use Rattle.fj_world.specs.Leading.{LeadsTo};
 ghost use Rattle.fj_world.specs.Rack.{At};
 ghost use Rattle.fj_world.specs.Plain.{PlainSlot, asked_next};
 ghost use Rattle.fj_world.specs.Fits.{SlotsFit};
-ghost use Rattle.fj_world.specs.Keeping.{AllCounted, AllGoOn, SomeStopped};
+ghost use Rattle.fj_world.specs.Keeping.{AllCounted, AllGoOn, CanGoOn, SomeStopped};
 ghost use Rattle.fj_world.specs.Alone.{ServesFront, Settles, AllHome, OwesAsSaid, ServedAlone};
 ghost use Rattle.fj_world.specs.Losing.{WasLost};
 
@@ -26,6 +26,9 @@ pub fn run_alone<S: Script>(script: &mut S, slots: &mut Slots<S::Gear>)
     ensures home { AllHome slots.new }
     ensures keeps { AllGoOn slots.old slots.new }
     ensures counted { AllCounted S.Gear.meaning slots.old → AllCounted S.Gear.meaning slots.new }
+
+    // It may be called once more, over these slots.
+    ensures again { CanGoOn S.conduct script.old script.new slots.new }
 
     // A script is told a stop of a slot that has stopped.
     ensures stopped { S.conduct.stopped script.old ≡ false → S.conduct.stopped script.new ≡ true → SomeStopped slots.new }

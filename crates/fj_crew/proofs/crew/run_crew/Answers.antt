@@ -5,7 +5,7 @@ use Rattle.fj_crew.specs.Plan.{Opened, Shut, plan_at}
 use Rattle.fj_crew.proofs.Looking.{on_ok, on_err}
 use Rattle.fj_crew.proofs.Liking.{opened_like}
 use Rattle.fj_crew.proofs.Planning.{plan_sound, planned_or_not, begun_from, ends_alone, ends_lost, slots_told, opened_begins, opened_answered, closed_home, back_home, back_long, back_numbers, back_counted, back_fits, plan_names}
-use Rattle.fj_crew.proofs.Closing.{numbers_go_on, counted_at_last, some_stopped, owes_at_last}
+use Rattle.fj_crew.proofs.Closing.{numbers_go_on, counted_at_last, some_stopped, owes_at_last, goes_on_at_last}
 use Rattle.fj_crew.proofs.crew.run_crew.Goals as goal
 
 pub open-requires : goal.open-requires
@@ -120,6 +120,14 @@ returns-in-Ok-done-clause-owed g c =
     let served = on_ok c.employ-queues.result.1 c.in-Ok-done.field-0 c.in-Ok-done.is c.employ-queues.ensures.served in
     let shut = subst (λ z. Shut m z seats c.shut.new.slots.slots) c.in-Ok.ensures.all c.shut.ensures.shut in
     owes_at_last m con c.employ-queues.new.script seats c.shut.new.slots shut served.owed
+
+pub returns-in-Ok-done-clause-again : goal.returns-in-Ok-done-clause-again
+returns-in-Ok-done-clause-again g c =
+    let m = g.S.Gear.Engine.meaning in let con = g.S.Script.conduct in
+    let seats = c.employ-queues.new.seats.items in
+    let served = on_ok c.employ-queues.result.1 c.in-Ok-done.field-0 c.in-Ok-done.is c.employ-queues.ensures.served in
+    let shut = subst (λ z. Shut m z seats c.shut.new.slots.slots) c.in-Ok.ensures.all c.shut.ensures.shut in
+    goes_on_at_last m con c.args.script.now c.employ-queues.new.script seats c.shut.new.slots shut served.again
 
 pub returns-in-Ok-done-clause-stopped : goal.returns-in-Ok-done-clause-stopped
 returns-in-Ok-done-clause-stopped g c = λ was is.

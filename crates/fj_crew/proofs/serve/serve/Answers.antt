@@ -2,7 +2,7 @@ use Rattle.std.proofs.Common.{◌≡◌, length, sym, ap, ◌∙◌, subst, arit
 use Rattle.std.proofs.lemmas.List.{length-set}
 use Rattle.std.proofs.lemmas.Bool.{false_from_ne_true}
 use Rattle.fj_world.proofs.Leads.{led_once, led_twice}
-use Rattle.fj_world.specs.declared.ask.Ask.TheVariants.{Submit, Settle}
+use Rattle.fj_world.specs.declared.ask.Ask.TheVariants.{Submit, Settle, Finished}
 use Rattle.fj_world.specs.Conduct.{KeepsTo, IsDueAsk}
 use Rattle.fj_world.specs.Plain.{asked_next}
 use Rattle.fj_queue.specs.Knows.{knows}
@@ -20,6 +20,7 @@ loop-slot-init g c =
       due = asks.due;
       keeps_to = asks.keeps_to;
       gives = c.ask-hand.ensures.gives;
+      as_many = asks.uses;
       ends = asks.ends;
       uses = omega (arith, asks.uses, c.requires.uses);
       few = λ at s e. omega (arith, c.requires.few at s e, asks.left);
@@ -63,6 +64,7 @@ loop-slot-preserved-in-Submit g c =
       due = asks.due;
       keeps_to = asks.keeps_to;
       gives = c.ask-hand-in-Submit.ensures.gives;
+      as_many = asks.uses ∙ c.took.ensures.uses ∙ inv.as_many;
       ends = asks.ends;
       uses = omega (arith, inv.uses, c.took.ensures.uses, asks.uses, ap length did.after, length-set old c.in-Submit.slot did.seat);
       few = few_on m k c.loop-slot.script c.took.new.self c.ask-hand-in-Submit.new.self old new c.in-Submit.slot found.0 did.seat inv.few found.1 did.after
@@ -100,6 +102,7 @@ loop-slot-preserved g c =
       due = asks.due;
       keeps_to = asks.keeps_to;
       gives = c.ask-hand-in-Settle.ensures.gives;
+      as_many = asks.uses ∙ c.told.ensures.uses ∙ inv.as_many;
       ends = asks.ends;
       uses = omega (arith, inv.uses, c.told.ensures.uses, asks.uses, ap length did.after, length-set old c.in-Settle.slot did.seat);
       few = few_on m k c.loop-slot.script c.told.new.self c.ask-hand-in-Settle.new.self old new c.in-Settle.slot found.0 did.seat inv.few found.1 did.after
@@ -115,4 +118,14 @@ loop-slot-preserved g c =
           old new c.in-Settle.slot c.settle_at-told.result found.0 b.planned inv.same inv.leads (inv.goes b) going keeps.1 hand due found.1 (omega (arith, owes, keeps.2)) (λ all. inv.answered all going c.in-Settle.slot found.0 found.1) did c.told.ensures asks over;
       goes = λ b. settle_goes m k (asked_next m k b.state b.slots) (k.left c.args.script.now) c.args.seats.now.items c.loop-slot.script c.told.new.self c.ask-hand-in-Settle.new.self c.loop-slot.hand c.ask-hand-in-Settle.result
           old new c.in-Settle.slot c.settle_at-told.result found.0 b.planned inv.same (inv.goes b) going keeps.1 hand found.1 (omega (arith, owes, keeps.2)) (λ all. inv.answered all going c.in-Settle.slot found.0 found.1) did c.told.ensures asks;
+    }
+
+pub returns-in-Finished-clause-again : goal.returns-in-Finished-clause-again
+returns-in-Finished-clause-again g c =
+    let k = g.S.Script.conduct in
+    let hand : c.loop-slot.hand ≡ Finished = sym c.replace.ensures.value ∙ c.in-Finished.is in
+    record {
+      idle = subst (IsDueAsk (k.due c.loop-slot.script)) hand c.loop-slot.invariant.due;
+      uses = c.loop-slot.invariant.as_many;
+      few = c.loop-slot.invariant.few;
     }

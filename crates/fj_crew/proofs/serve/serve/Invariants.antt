@@ -16,6 +16,7 @@ invariant-loop-slot g l = record {
   gives : GivesOf g.S.Script.gives l.script l.hand;
   ends : g.S.Script.conduct.over l.script ≡ true → l.hand ≡ Finished;
   uses : g.S.Script.conduct.uses l.script ≤ length l.seats.items;
+  as_many : g.S.Script.conduct.uses l.script ≡ g.S.Script.conduct.uses l.fn.script;
   few : FewJobs g.S.Script.conduct l.script l.seats.items;
   owed : OwesAsSaid g.S.Script.conduct l.script l.seats.items;
   paired : Paired l.queues.items l.seats.items;

@@ -1,5 +1,6 @@
 use Rattle.std.proofs.Common.{ap, ◌∙◌, subst}
 use Rattle.fj_world.specs.Rack.{Rack}
+use Rattle.fj_world.specs.Keeping.{CanGoOn}
 use Rattle.fj_world.specs.Losing.{WasLost}
 use Rattle.fj_crew.specs.Plan.{SameNumbers}
 use Rattle.fj_crew.proofs.WithWorkers.{numbers_of, numbers_on, few_same, owes_same}
@@ -42,6 +43,10 @@ returns-in-Err-clause-keeps g c =
 
 pub returns-in-Err-clause-counted : goal.returns-in-Err-clause-counted
 returns-in-Err-clause-counted g c = c.run_alone-in-Err.ensures.counted c.in-Err.ensures.lost_counted
+
+pub returns-in-Err-clause-again : goal.returns-in-Err-clause-again
+returns-in-Err-clause-again g c =
+    subst (λ z. CanGoOn g.S.Script.conduct z c.run_alone-in-Err.new.script c.run_alone-in-Err.new.slots) c.in-Err.ensures.lost.0 c.run_alone-in-Err.ensures.again
 
 pub returns-in-Err-clause-alone : goal.returns-in-Err-clause-alone
 returns-in-Err-clause-alone g c = λ s qs state on fits.

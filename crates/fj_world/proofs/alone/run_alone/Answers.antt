@@ -25,6 +25,7 @@ loop-slot-init g c =
     record {
       orderly = record { due = first.due; keeps_to = first.keeps_to; ends = first.ends; uses = first.uses; few = first.few; held = first.held; apart = first.apart };
       gives = c.ask-hand.ensures.gives;
+      uses = asks.uses;
       keeps = all_go_itself c.args.slots.now;
       stopped = λ on e. absurd (let o = (asks.stops e).0 in cc);
       counted = λ all. all;
@@ -58,6 +59,7 @@ loop-slot-preserved-in-Submit g c =
     record {
       orderly = record { due = orderly.due; keeps_to = orderly.keeps_to; ends = orderly.ends; uses = orderly.uses; few = orderly.few; held = orderly.held; apart = orderly.apart };
       gives = c.ask-hand-in-Submit.ensures.gives;
+      uses = asks.uses ∙ c.took.ensures.uses ∙ inv.uses;
       keeps = all_go_on_and_on c.args.slots.now c.loop-slot.slots c.submit-number.new.self inv.keeps moves.0;
       stopped = λ on e. submit_stopped m k c.loop-slot.slots c.submit-number.new.self c.in-Submit.slot c.in-Submit.job found.0 c.submit-number.result found.1
           (c.submit-number.ensures.after found.0 found.1) c.submit-number.ensures.err (inv.stopped on (c.took.ensures.stops (asks.stops e).0));
@@ -99,6 +101,7 @@ loop-slot-preserved g c =
       stopped = λ on e. told_stopped m k c.loop-slot.slots c.settle-told.new.slots c.in-Settle.slot settled.ledger c.settle-told.result
           (omega (arith, keeps.0, inv.orderly.uses)) settled.after settled.tells (c.told.ensures.stops (asks.stops e).0).0;
       gives = c.ask-hand-in-Settle.ensures.gives;
+      uses = asks.uses ∙ c.told.ensures.uses ∙ inv.uses;
       keeps = all_go_on_and_on c.args.slots.now c.loop-slot.slots c.settle-told.new.slots inv.keeps
           (all_go_set c.loop-slot.slots c.settle-told.new.slots c.in-Settle.slot found.0 (with_tell settled.ledger) found.1 settled.after c.settle-told.ensures.spare
           (goes_same found.0 (with_tell settled.ledger) settled.serves.start settled.serves.jobs settled.serves.done (omega (arith, settled.serves.told))));
@@ -128,4 +131,14 @@ returns-in-Finished-clause-alone g c = λ s qs state on fit.
     record {
       entries = before.0;
       fits = subst (λ h. Fits m k (after m k before.0 (asked_next m k s qs)) (record { start = c.loop-slot.script; script = c.loop-slot.script; hand = h; rack = c.loop-slot.slots; workers = [] })) hand before.1;
+    }
+
+pub returns-in-Finished-clause-again : goal.returns-in-Finished-clause-again
+returns-in-Finished-clause-again g c =
+    let k = g.S.Script.conduct in
+    let hand : c.loop-slot.hand ≡ Finished = sym c.replace.ensures.value ∙ c.in-Finished.is in
+    record {
+      idle = subst (IsDueAsk (k.due c.loop-slot.script)) hand c.loop-slot.invariant.orderly.due;
+      uses = c.loop-slot.invariant.uses;
+      few = c.loop-slot.invariant.orderly.few;
     }

@@ -13,6 +13,7 @@ abbrev pub invariant-loop-slot : goal.invariant-loop-slot
 invariant-loop-slot g l = record {
   orderly : IsOrderly g.S.Gear.Engine.meaning g.S.Script.conduct (record { start = l.script; script = l.script; hand = l.hand; rack = l.slots; workers = [] });
   gives : GivesOf g.S.Script.gives l.script l.hand;
+  uses : g.S.Script.conduct.uses l.script ≡ g.S.Script.conduct.uses l.fn.script;
   owed : OwesAsSaid g.S.Script.conduct l.script l.slots;
   stopped : g.S.Script.conduct.stopped l.fn.script ≡ false → g.S.Script.conduct.stopped l.script ≡ true → SomeStopped l.slots;
   keeps : AllGoOn l.fn.slots l.slots;
