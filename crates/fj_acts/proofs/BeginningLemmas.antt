@@ -111,7 +111,7 @@ instead_output variables core (statement.Assign to from) k = refl
 instead_output variables core (statement.CloseUnit unit keep iostat) k = closed_output core keep k (unit_at core (number_of unit))
 instead_output variables core (statement.WaitFor unit id iostat) k = refl
 instead_output variables core (statement.Move how unit iostat) k = refl
-instead_output variables core (statement.Inquire subject asked id iostat) k = refl
+instead_output variables core (statement.Inquire subject asked id iostat _) k = refl
 instead_output variables core (statement.Transfer t) k = refl
 instead_output variables core statement.End k = ended_output core core.units k
 
@@ -161,11 +161,11 @@ end_front r taken variables line core what e =
     takes_nothing r taken core (own (control_by what) variables line core what)
     (ap (λ (d : Doing). (core_at d).output) (sym (own_is variables line core what statement.End e)) ∙ ended_output core core.units condition.Fine)
 
-pub inquire_front : {A E : Type 0} (r : Result A E) (taken : List ℕ) (variables : List Variable) (line : ℕ) (core : Core) (what : Statement) (subject : Subject) (asked : List Wanted) (id : Option Operand) (iostat : Option Place)
-    → what ≡ statement.Inquire subject asked id iostat → OnErr r (HandsFront taken taken core.output (core_at (own (control_by what) variables line core what)).output)
-inquire_front r taken variables line core what subject asked id iostat e =
+pub inquire_front : {A E : Type 0} (r : Result A E) (taken : List ℕ) (variables : List Variable) (line : ℕ) (core : Core) (what : Statement) (subject : Subject) (asked : List Wanted) (id : Option Operand) (iostat : Option Place) (is_done : Option Bool)
+    → what ≡ statement.Inquire subject asked id iostat is_done → OnErr r (HandsFront taken taken core.output (core_at (own (control_by what) variables line core what)).output)
+inquire_front r taken variables line core what subject asked id iostat is_done e =
     takes_nothing r taken core (own (control_by what) variables line core what)
-    (ap (λ (d : Doing). (core_at d).output) (sym (own_is variables line core what (statement.Inquire subject asked id iostat) e))
+    (ap (λ (d : Doing). (core_at d).output) (sym (own_is variables line core what (statement.Inquire subject asked id iostat is_done) e))
     ∙ inquires_output variables core (unit_about (unit_named core.units) subject) (file_asked subject) asked (number_given core.vars id) (unit_at core (unit_about (unit_named core.units) subject)))
 
 pub instead_front : {A E : Type 0} (r : Result A E) (taken : List ℕ) (control : ℕ → List Given) (variables : List Variable) (line : ℕ) (core : Core) (what : Statement) (k : Condition) → (k ≡ condition.Fine → ⊥)
@@ -176,27 +176,28 @@ instead_front r taken control variables line core what k never =
 
 -- ---- kinds of statements
 
-pub asks_about : (what : Statement) (subject : Subject) (asked : List Wanted) (id given : Option Operand) (iostat : Option Place) → what ≡ statement.Inquire subject asked id iostat → given ≡ id → AsksAbout what subject asked given
-asks_about what subject asked id given iostat e same = subst (λ (w : Statement). AsksAbout w subject asked given) (sym e) (refl, refl, sym same)
+pub asks_about : (what : Statement) (subject : Subject) (asked : List Wanted) (id given : Option Operand) (iostat : Option Place) (is_done : Option Bool) → what ≡ statement.Inquire subject asked id iostat is_done → given ≡ id → AsksAbout what subject asked given
+asks_about what subject asked id given iostat is_done e same = subst (λ (w : Statement). AsksAbout w subject asked given) (sym e) (refl, refl, sym same)
 
-pub looks_nothing : (variables : List Variable) (core : Core) (what : Statement) (o : Outcome) → ((subject : Subject) (asked : List Wanted) (id : Option Operand) (iostat : Option Place) → what ≡ statement.Inquire subject asked id iostat → ⊥) → looks variables core what o ≡ finishes core condition.Fine
+pub looks_nothing : (variables : List Variable) (core : Core) (what : Statement) (o : Outcome) → ((subject : Subject) (asked : List Wanted) (id : Option Operand) (iostat : Option Place) (is_done : Option Bool) → what ≡ statement.Inquire subject asked id iostat is_done → ⊥) → looks variables core what o ≡ finishes core condition.Fine
 looks_nothing variables core (statement.OpenUnit unit spec iostat) o never = refl
 looks_nothing variables core (statement.Assign to from) o never = refl
 looks_nothing variables core (statement.CloseUnit unit keep iostat) o never = refl
 looks_nothing variables core (statement.WaitFor unit id iostat) o never = refl
 looks_nothing variables core (statement.Move how unit iostat) o never = refl
-looks_nothing variables core (statement.Inquire subject asked id iostat) o never = absurd (never subject asked id iostat refl)
+looks_nothing variables core (statement.Inquire subject asked id iostat is_done) o never = absurd (never subject asked id iostat is_done refl)
 looks_nothing variables core (statement.Transfer t) o never = refl
 looks_nothing variables core statement.End o never = refl
 
 pub instead_nothing : (variables : List Variable) (core : Core) (what : Statement) (k : Condition)
-    → ((unit : UnitRef) (keep : Option Bool) (iostat : Option Place) → what ≡ statement.CloseUnit unit keep iostat → ⊥) → ((t : Transfer) → what ≡ statement.Transfer t → ⊥) → (what ≡ statement.End → ⊥)
-    → instead variables core what k ≡ finishes core k
-instead_nothing variables core (statement.OpenUnit unit spec iostat) k close transfer end = refl
-instead_nothing variables core (statement.Assign to from) k close transfer end = refl
-instead_nothing variables core (statement.CloseUnit unit keep iostat) k close transfer end = absurd (close unit keep iostat refl)
-instead_nothing variables core (statement.WaitFor unit id iostat) k close transfer end = refl
-instead_nothing variables core (statement.Move how unit iostat) k close transfer end = refl
-instead_nothing variables core (statement.Inquire subject asked id iostat) k close transfer end = refl
-instead_nothing variables core (statement.Transfer t) k close transfer end = absurd (transfer t refl)
-instead_nothing variables core statement.End k close transfer end = absurd (end refl)
+    → ((unit : UnitRef) (keep : Option Bool) (iostat : Option Place) → what ≡ statement.CloseUnit unit keep iostat → ⊥)
+    → ((subject : Subject) (asked : List Wanted) (id : Option Operand) (iostat : Option Place) (is_done : Option Bool) → what ≡ statement.Inquire subject asked id iostat is_done → ⊥)
+    → ((t : Transfer) → what ≡ statement.Transfer t → ⊥) → (what ≡ statement.End → ⊥) → instead variables core what k ≡ finishes core k
+instead_nothing variables core (statement.OpenUnit unit spec iostat) k close inquire transfer end = refl
+instead_nothing variables core (statement.Assign to from) k close inquire transfer end = refl
+instead_nothing variables core (statement.CloseUnit unit keep iostat) k close inquire transfer end = absurd (close unit keep iostat refl)
+instead_nothing variables core (statement.WaitFor unit id iostat) k close inquire transfer end = refl
+instead_nothing variables core (statement.Move how unit iostat) k close inquire transfer end = refl
+instead_nothing variables core (statement.Inquire subject asked id iostat is_done) k close inquire transfer end = absurd (inquire subject asked id iostat is_done refl)
+instead_nothing variables core (statement.Transfer t) k close inquire transfer end = absurd (transfer t refl)
+instead_nothing variables core statement.End k close inquire transfer end = absurd (end refl)

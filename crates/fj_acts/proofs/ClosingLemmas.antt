@@ -84,7 +84,7 @@ connects_is (statement.Assign to from) number spec modes core asks e = absurd as
 connects_is (statement.CloseUnit unit keep iostat) number spec modes core asks e = absurd asks
 connects_is (statement.WaitFor unit id iostat) number spec modes core asks e = absurd asks
 connects_is (statement.Move how unit iostat) number spec modes core asks e = absurd asks
-connects_is (statement.Inquire subject asked id iostat) number spec modes core asks e = absurd asks
+connects_is (statement.Inquire subject asked id iostat _) number spec modes core asks e = absurd asks
 connects_is (statement.Transfer t) number spec modes core asks e = absurd asks
 connects_is statement.End number spec modes core asks e = absurd asks
 

@@ -91,7 +91,7 @@ opens_there (statement.Assign to from) number core = ends_there core Fine
 opens_there (statement.CloseUnit unit keep iostat) number core = ends_there core Fine
 opens_there (statement.WaitFor unit id iostat) number core = ends_there core Fine
 opens_there (statement.Move how unit iostat) number core = ends_there core Fine
-opens_there (statement.Inquire subject asked id iostat) number core = ends_there core Fine
+opens_there (statement.Inquire subject asked id iostat _) number core = ends_there core Fine
 opens_there (statement.Transfer t) number core = ends_there core Fine
 opens_there statement.End number core = ends_there core Fine
 
@@ -140,7 +140,7 @@ module _ (control : ℕ → List Given) (variables : List Variable) (line : ℕ)
   own_there (statement.CloseUnit u keep iostat) = closes_by (Leaves core) core keep (unit_at core (number_of u)) (ends_there core) (λ u e. record { units = refl; files = λ name other. refl })
   own_there (statement.WaitFor u id iostat) = ends_there core Fine
   own_there (statement.Move how u iostat) = moved_there core how (unit_at core (number_of u))
-  own_there (statement.Inquire subject asked id iostat) =
+  own_there (statement.Inquire subject asked id iostat _) =
       let number = unit_about (unit_named core.units) subject in asked_there variables core number (file_asked subject) asked (number_given core.vars id) (unit_at core number)
   own_there (statement.Transfer t) = at_there t (moved_in variables core.vars t) t.unit
   own_there statement.End = closes_there core.units core Fine
@@ -159,7 +159,7 @@ pends_there variables core (statement.OpenUnit u spec iostat) unit slot number =
 pends_there variables core (statement.CloseUnit u keep iostat) unit slot number = ends_there core Fine
 pends_there variables core (statement.WaitFor u id iostat) unit slot number = ends_there core Fine
 pends_there variables core (statement.Move how u iostat) unit slot number = ends_there core Fine
-pends_there variables core (statement.Inquire subject asked id iostat) unit slot number = ends_there core Fine
+pends_there variables core (statement.Inquire subject asked id iostat _) unit slot number = ends_there core Fine
 pends_there variables core (statement.Transfer t) unit slot number = record { units = refl; files = λ name other. refl }
 pends_there variables core statement.End unit slot number = ends_there core Fine
 
@@ -173,7 +173,7 @@ carries_there variables core (statement.OpenUnit u spec iostat) slot o = ends_th
 carries_there variables core (statement.CloseUnit u keep iostat) slot o = ends_there core Fine
 carries_there variables core (statement.WaitFor u id iostat) slot o = ends_there core Fine
 carries_there variables core (statement.Move how u iostat) slot o = ends_there core Fine
-carries_there variables core (statement.Inquire subject asked id iostat) slot o = ends_there core Fine
+carries_there variables core (statement.Inquire subject asked id iostat _) slot o = ends_there core Fine
 carries_there variables core (statement.Transfer t) slot o =
     either (Leaves core) (halts (condition_in o.1)) _ _ (record { units = refl; files = λ name other. refl }) (record { units = refl; files = λ name other. refl })
 carries_there variables core statement.End slot o = ends_there core Fine
@@ -188,7 +188,7 @@ looks_there variables core (statement.OpenUnit u spec iostat) o = ends_there cor
 looks_there variables core (statement.CloseUnit u keep iostat) o = ends_there core Fine
 looks_there variables core (statement.WaitFor u id iostat) o = ends_there core Fine
 looks_there variables core (statement.Move how u iostat) o = ends_there core Fine
-looks_there variables core (statement.Inquire subject asked id iostat) o =
+looks_there variables core (statement.Inquire subject asked id iostat _) o =
     let number = unit_about (unit_named core.units) subject in seen_there variables core number (file_asked subject) asked (number_given core.vars id) (unit_at core number) (look_in o.0)
 looks_there variables core (statement.Transfer t) o = ends_there core Fine
 looks_there variables core statement.End o = ends_there core Fine

@@ -66,7 +66,7 @@ opens_free (statement.Assign to from) spec n us opens none free = absurd opens
 opens_free (statement.CloseUnit u keep iostat) spec n us opens none free = absurd opens
 opens_free (statement.WaitFor u id iostat) spec n us opens none free = absurd opens
 opens_free (statement.Move how u iostat) spec n us opens none free = absurd opens
-opens_free (statement.Inquire about asked id iostat) spec n us opens none free = absurd opens
+opens_free (statement.Inquire about asked id iostat _) spec n us opens none free = absurd opens
 opens_free (statement.Transfer t) spec n us opens none free = absurd opens
 opens_free statement.End spec n us opens none free = absurd opens
 
@@ -80,7 +80,7 @@ asks_by (statement.Assign to from) number spec opens = absurd opens
 asks_by (statement.CloseUnit u keep iostat) number spec opens = absurd opens
 asks_by (statement.WaitFor u id iostat) number spec opens = absurd opens
 asks_by (statement.Move how u iostat) number spec opens = absurd opens
-asks_by (statement.Inquire about asked id iostat) number spec opens = absurd opens
+asks_by (statement.Inquire about asked id iostat _) number spec opens = absurd opens
 asks_by (statement.Transfer t) number spec opens = absurd opens
 asks_by statement.End number spec opens = absurd opens
 
@@ -107,7 +107,7 @@ free_of (statement.Assign to from) spec n us asks f = absurd asks
 free_of (statement.CloseUnit u keep iostat) spec n us asks f = absurd asks
 free_of (statement.WaitFor u id iostat) spec n us asks f = absurd asks
 free_of (statement.Move how u iostat) spec n us asks f = absurd asks
-free_of (statement.Inquire about asked id iostat) spec n us asks f = absurd asks
+free_of (statement.Inquire about asked id iostat _) spec n us asks f = absurd asks
 free_of (statement.Transfer t) spec n us asks f = absurd asks
 free_of statement.End spec n us asks f = absurd asks
 

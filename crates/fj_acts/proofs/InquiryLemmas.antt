@@ -1,6 +1,7 @@
 -- Answers of INQUIRE, as the program and as plain data have them.
-use Rattle.std.proofs.Common.{◌≡◌, map, ℕ, Bool, true, false, List, [], ◌∷◌, ◌++◌, Option, Some, None, refl, sym, ap, subst, ◌∙◌}
-use Rattle.std.specs.Prelude.{ℤ, pos, ◌+◌, codes, if◌then◌else◌, is_some}
+use Rattle.std.proofs.Common.{◌≡◌, map, ℕ, ◌<◌, Bool, true, false, List, [], ◌∷◌, ◌++◌, length, get_or, drop, Option, Some, None, refl, sym, ap, subst, ◌∙◌}
+use Rattle.std.specs.Prelude.{ℤ, pos, ◌+◌, codes, filter, if◌then◌else◌, is_some}
+use Rattle.std.proofs.lemmas.List.{at_drop_more}
 use Rattle.std.specs.Option.{option_map, option_map_or}
 use Rattle.fj_value.specs.Kind.{fits_bits}
 use Rattle.fj_value.specs.declared.edit.Delim.{Delim}
@@ -36,8 +37,11 @@ use Rattle.fj_statement.specs.declared.statement.Operand.{Operand}
 use Rattle.fj_statement.specs.declared.statement.Statement.{Statement}
 use Rattle.fj_statement.specs.declared.statement.Statement.TheVariants as statement
 use Rattle.fj_store.specs.Places.{places_in}
-use Rattle.fj_store.specs.Storage.{Storage, values_of}
+use Rattle.fj_store.specs.Storage.{Storage, with_value, values_of}
+use Rattle.fj_store.specs.Variables.{Variables}
 use Rattle.fj_plain.specs.Items.{given_back}
+use Rattle.fj_plain.proofs.Stored.{set_is}
+use Rattle.fj_items.specs.Kinds.{kinds_of}
 use Rattle.fj_book.specs.Prohibitions.{Holder}
 use Rattle.fj_bay.specs.Jobs as task
 use Rattle.fj_bay.specs.declared.job.Job.TheVariants as job
@@ -223,6 +227,28 @@ cells_same about p (w ∷ asked) alike =
 pub alone : (out old due : List Cell) → out ≡ old ++ due → old ≡ [] → out ≡ due
 alone out old due is none = is ∙ ap (λ cells. cells ++ due) none
 
+-- ---- PENDING= is false, and nothing else is answered
+
+-- one question more
+module _ (variables : List Variable) (s new : Storage) (asked : List Wanted) (i : ℕ) (d : Wanted) (want : Variables) (low : i < length asked) where
+  -- what is given back by whether it is PENDING=
+  abbrev given_where : Bool → Variables
+  given_where b =
+      let rest : List Wanted = filter (λ (w : Wanted). plain.asks_pending w.what) (drop (i + 1) asked) in
+      given_back variables (map (λ (w : Wanted). (let cell : Cell = record { place = w.place; kind = w.kind; value = value.Log false } in cell)) (if b then get_or asked i d ∷ rest else rest)) (values_of s)
+
+  given_so_far : (b : Bool) → plain.asks_pending (get_or asked i d).what ≡ b → given_back variables (plain.none_pending (drop i asked)) (values_of s) ≡ want → given_where b ≡ want
+  given_so_far b is so_far = sym (ap given_where is) ∙ sym (at_drop_more (λ ws. given_back variables (plain.none_pending ws) (values_of s)) asked i d low) ∙ so_far
+
+  pub pending_given : plain.asks_pending (get_or asked i d).what ≡ true → s.kinds ≡ kinds_of variables → new ≡ with_value s (get_or asked i d).place (value.Log false)
+      → given_back variables (plain.none_pending (drop i asked)) (values_of s) ≡ want → given_back variables (plain.none_pending (drop (i + 1) asked)) (values_of new) ≡ want
+  pending_given is kinds put so_far =
+      ap (given_back variables (plain.none_pending (drop (i + 1) asked))) (set_is variables s new (get_or asked i d).place (value.Log false) kinds put) ∙ given_so_far true is so_far
+
+  pub other_given : plain.asks_pending (get_or asked i d).what ≡ false → new ≡ s
+      → given_back variables (plain.none_pending (drop i asked)) (values_of s) ≡ want → given_back variables (plain.none_pending (drop (i + 1) asked)) (values_of new) ≡ want
+  other_given is same so_far = ap (λ (x : Storage). given_back variables (plain.none_pending (drop (i + 1) asked)) (values_of x)) same ∙ given_so_far false is so_far
+
 -- ---- pending transfers
 
 book_is : (hs : List Held) → holders hs ≡ pending_holders (map (λ (h : PlainHeld). h.pending) (held hs))
@@ -294,10 +320,10 @@ inquires_at_once variables core o n u file asked id at is needs = inquires_by va
 
 looks_is : (variables : List Variable) (core : Core) (what : Statement) (subject : Subject) (asked : List Wanted) (id : Option Operand) (x : Outcome) → AsksAbout what subject asked id
     → looks variables core what x ≡ looks_at variables core (unit_about (unit_named core.units) subject) (file_asked subject) asked (number_given core.vars id) (unit_at core (unit_about (unit_named core.units) subject)) (look_in x.0)
-looks_is variables core (statement.Inquire about wanted given iostat) subject asked id x (same, wants, gives) =
-    ap (λ (s : Subject). looks variables core (statement.Inquire s wanted given iostat) x) same
-    ∙ ap (λ (ws : List Wanted). looks variables core (statement.Inquire subject ws given iostat) x) wants
-    ∙ ap (λ (i : Option Operand). looks variables core (statement.Inquire subject asked i iostat) x) gives
+looks_is variables core (statement.Inquire about wanted given iostat is_done) subject asked id x (same, wants, gives) =
+    ap (λ (s : Subject). looks variables core (statement.Inquire s wanted given iostat is_done) x) same
+    ∙ ap (λ (ws : List Wanted). looks variables core (statement.Inquire subject ws given iostat is_done) x) wants
+    ∙ ap (λ (i : Option Operand). looks variables core (statement.Inquire subject asked i iostat is_done) x) gives
 looks_is variables core (statement.Assign to from) subject asked id x asks = absurd asks
 looks_is variables core (statement.OpenUnit unit spec iostat) subject asked id x asks = absurd asks
 looks_is variables core (statement.CloseUnit unit keep iostat) subject asked id x asks = absurd asks

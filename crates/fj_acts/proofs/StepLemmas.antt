@@ -95,7 +95,7 @@ carries_nothing variables core (statement.Assign to from) slot o never = refl
 carries_nothing variables core (statement.CloseUnit unit keep iostat) slot o never = refl
 carries_nothing variables core (statement.WaitFor unit id iostat) slot o never = refl
 carries_nothing variables core (statement.Move how unit iostat) slot o never = refl
-carries_nothing variables core (statement.Inquire subject asked id iostat) slot o never = refl
+carries_nothing variables core (statement.Inquire subject asked id iostat _) slot o never = refl
 carries_nothing variables core (statement.Transfer t) slot o never = absurd (never t refl)
 carries_nothing variables core statement.End slot o never = refl
 
@@ -105,7 +105,7 @@ pends_by variables core (statement.Assign to from) unit slot number never = refl
 pends_by variables core (statement.CloseUnit u keep iostat) unit slot number never = refl
 pends_by variables core (statement.WaitFor u id iostat) unit slot number never = refl
 pends_by variables core (statement.Move how u iostat) unit slot number never = refl
-pends_by variables core (statement.Inquire subject asked id iostat) unit slot number never = refl
+pends_by variables core (statement.Inquire subject asked id iostat _) unit slot number never = refl
 pends_by variables core (statement.Transfer t) unit slot number never = absurd (never t refl)
 pends_by variables core statement.End unit slot number never = refl
 

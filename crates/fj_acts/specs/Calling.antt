@@ -18,7 +18,7 @@ may_close _ = false
 
 -- these, and INQUIRE with FILE=
 abbrev pub calls_disk : Statement → Bool
-calls_disk (statement.Inquire about asked id iostat) = is_some (file_asked about)
+calls_disk (statement.Inquire about asked id iostat _) = is_some (file_asked about)
 calls_disk what = may_close what
 
 -- ---- a statement waits for the end of a connection only if it may close one

@@ -86,7 +86,7 @@ looks_at variables core number file asked id None look = finishes core Fine
 looks_at variables core number file asked id (Some u) look = answers variables core (about_unit core number file id u look) asked
 
 abbrev pub looks : List Variable → Core → Statement → Outcome → PlainDoing
-looks variables core (statement.Inquire subject asked id iostat) o =
+looks variables core (statement.Inquire subject asked id iostat _) o =
     let number = unit_about (unit_named core.units) subject in looks_at variables core number (file_asked subject) asked (number_given core.vars id) (unit_at core number) (look_in o.0)
 looks variables core _ o = finishes core Fine
 
@@ -117,7 +117,7 @@ AsksToOpen _ asked = ⊥
 
 -- the statement is an INQUIRE of these specifiers
 abbrev pub AsksAbout : Statement → Subject → List Wanted → Option Operand → Type 0
-AsksAbout (statement.Inquire about wanted id iostat) subject asked given_id = (about ≡ subject) × (wanted ≡ asked) × (id ≡ given_id)
+AsksAbout (statement.Inquire about wanted id iostat _) subject asked given_id = (about ≡ subject) × (wanted ≡ asked) × (id ≡ given_id)
 AsksAbout _ subject asked given_id = ⊥
 
 -- the statement ends

@@ -25,7 +25,7 @@ ghost use Rattle.fj_acts.specs.Having.{HaveNext, name_brought};
 
 use crate::closing::{close, close_all, close_anyway};
 use crate::doing::{Doing, Then};
-use crate::inquiring::inquire;
+use crate::inquiring::{answer_none_pending, inquire};
 use crate::opening::open;
 use crate::state::Core;
 use crate::transfers::{read_or_write, refuse};
@@ -148,6 +148,7 @@ fn own<W: Sink, D: Disk>(
             asked,
             id,
             iostat: _,
+            done: _,
         } => { inquire(alloc, variables, about, asked, id.as_ref(), core, disk) }
         Statement::Transfer(t) => read_or_write(alloc, variables, lined.line, t, core, out),
         Statement::End => close_all(alloc, fine, core),
@@ -184,6 +185,16 @@ fn instead<F: FileStore>(
             keep,
             iostat: _,
         } => { close_anyway(alloc, *unit, *keep, condition, core) }
+        Statement::Inquire {
+            about: _,
+            asked,
+            id: _,
+            iostat: _,
+            done: _,
+        } => {
+            answer_none_pending(variables, asked, &mut core.store);
+            Ok(Doing::Finishes(condition))
+        }
         Statement::Transfer(t) => refuse(variables, t, condition, core),
         Statement::End => close_all(alloc, condition, core),
         _ => Ok(Doing::Finishes(condition)),

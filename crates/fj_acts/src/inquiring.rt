@@ -8,6 +8,8 @@ ghost use Rattle.fj_store.specs.Storage.{values_of};
 ghost use Rattle.fj_bay.specs.Plain.{looked_of};
 ghost use Rattle.fj_statement.specs.Units.{number_from_code};
 ghost use Rattle.fj_inquire.specs.Inquiring as told;
+ghost use Rattle.fj_plain.specs.Inquiring.{asks_pending, none_pending};
+ghost use Rattle.fj_plain.specs.Items.{given_back};
 ghost use Rattle.fj_plain.specs.Needs.{unit_about, number_given};
 ghost use Rattle.fj_plain.specs.State.{Files};
 ghost use Rattle.fj_plain.specs.Statement.{Stated, file_asked, about_other};
@@ -36,8 +38,9 @@ use fj_list::Cells;
 use fj_modes::{Asked, FileName, Question};
 use fj_outside::{Disk, FileStore};
 use fj_statement::{Operand, Subject, Variables, unit_number};
+use fj_store::Store;
 use fj_units::{Connected as Unit, Names, Units};
-use fj_value::{Boxed, Condition, Items};
+use fj_value::{Boxed, Condition, Items, Value};
 use std::alloc::{AllocError, Global};
 
 /// The number of the unit that is asked about, or that the file is connected to.
@@ -56,6 +59,16 @@ fn asks_connection(what: Question) -> bool
 {
     match what {
         Question::Nextrec | Question::Pos | Question::Size => true,
+        _ => false,
+    }
+}
+
+/// Whether a question is PENDING=.
+fn asks_pending(what: Question) -> bool
+    ensures { result ≡ asks_pending what }
+{
+    match what {
+        Question::Pending => true,
         _ => false,
     }
 }
@@ -143,6 +156,20 @@ fn answer_other<D: Disk>(
             inquire_file(alloc, name, there, None, None, false, asked, &mut cells)?;
             give_back(variables, &mut core.store, cells);
             Ok(Doing::Finishes(Condition::Fine))
+        }
+    }
+}
+
+/// PENDING= is false, and there is no other answer.
+pub(crate) fn answer_none_pending(variables: &Variables, asked: &Asked, store: &mut Store)
+    requires { store.old.kinds ≡ kinds_of variables.now }
+    ensures vars { values_of store.new ≡ given_back variables.now (none_pending asked.now) (values_of store.old) }
+    ensures kinds { store.new.kinds ≡ store.old.kinds }
+{
+    let _ = variables;
+    for wanted in asked.as_slice() {
+        if asks_pending(wanted.what) {
+            store.set(wanted.place, Value::Log(false));
         }
     }
 }

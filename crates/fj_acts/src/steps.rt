@@ -245,6 +245,7 @@ fn looked<F: FileStore>(
             asked,
             id,
             iostat: _,
+            done: _,
         } => { answer_look(alloc, variables, about, asked, id.as_ref(), look, core) }
         _ => Ok(Doing::Finishes(Condition::Fine)),
     }

@@ -224,7 +224,7 @@ module _ (control : ℕ → List Given) (variables : List Variable) (line : ℕ)
   own_sits (statement.CloseUnit u keep iostat) = closes_sits names core keep (number_of u) s
   own_sits (statement.WaitFor u id iostat) = s
   own_sits (statement.Move how u iostat) = moves_sit names core how (number_of u) s
-  own_sits (statement.Inquire subject asked id iostat) = inquires_sits variables names core (unit_about (unit_named core.units) subject) (file_asked subject) asked (number_given core.vars id) s
+  own_sits (statement.Inquire subject asked id iostat _) = inquires_sits variables names core (unit_about (unit_named core.units) subject) (file_asked subject) asked (number_given core.vars id) s
   own_sits (statement.Transfer t) = transfer_sits control variables line names core s t (moved_in variables core.vars t) t.unit
   own_sits statement.End = end_sits names core Fine s
 

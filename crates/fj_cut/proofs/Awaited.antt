@@ -23,7 +23,7 @@ use Rattle.fj_statement.specs.declared.statement.Statement.{Statement}
 use Rattle.fj_statement.specs.declared.statement.Statement.TheVariants as statement
 use Rattle.fj_statement.specs.declared.statement.Transfer.{Transfer}
 use Rattle.fj_bay.specs.Halt.{halts}
-use Rattle.fj_plain.specs.Needs.{number_of, number_given, unit_about, unit_of_file}
+use Rattle.fj_plain.specs.Needs.{number_of, number_given, number_of_subject, unit_about, unit_of_file}
 use Rattle.fj_plain.specs.State.{Files, Entry, start}
 use Rattle.fj_plain.specs.Statement.{Stated, file_asked}
 use Rattle.fj_plain.specs.Telling.{of_unit, of_id, waited_by, is_asynchronous, condition_of, tells_id, waited_in}
@@ -188,9 +188,9 @@ module _ (control : ℕ → List Given) (variables : List Variable) (line : ℕ)
   own_places (statement.WaitFor u id iostat) = tt
   own_places (statement.Move how u iostat) =
       moves_places (statement.Move how u iostat) (names_of core.units) (unit_named core.units) core how (number_of u) (unit_at core (number_of u)) (λ n. refl) (λ n e. e) refl
-  own_places (statement.Inquire subject asked id iostat) =
+  own_places (statement.Inquire subject asked id iostat done) =
       let number = unit_about (unit_named core.units) subject in
-      inquires_places (statement.Inquire subject asked id iostat) (names_of core.units) (unit_named core.units) variables core number (file_asked subject) asked (number_given core.vars id) (unit_at core number) (λ n. refl) (λ k n e. (k, e)) refl
+      inquires_places (statement.Inquire subject asked id iostat done) (names_of core.units) (unit_named core.units) variables core number (file_asked subject) asked (number_given core.vars id) (unit_at core number) (λ n. refl) (λ k n e. inl (k, e)) refl
   own_places (statement.Transfer t) =
       transfer_places (statement.Transfer t) (names_of core.units) (unit_named core.units) control variables line core t (moved_in variables core.vars t) t.unit (λ n. refl) (λ k n e. (k, e))
   own_places statement.End = ended Fine
@@ -281,7 +281,11 @@ module _ (unit_named_by : List ℕ → Option ℕ) (p : Desked) (k : ℕ) (t : E
   waits_by (statement.CloseUnit u keep iostat) h = of_one (entries p) k t (number_of u) r e h
   waits_by (statement.WaitFor u id iostat) h = of_one (entries p) k t (number_of u) r e (wait_told (entries p) (number_of u) (number_given p.core.vars id) t.id h)
   waits_by (statement.Move how u iostat) h = of_one (entries p) k t (number_of u) r e h
-  waits_by (statement.Inquire about asked id iostat) h = cc
+  waits_by (statement.Inquire about asked id iostat None) h = cc
+  waits_by (statement.Inquire about asked id iostat (Some false)) h = cc
+  waits_by (statement.Inquire about asked id iostat (Some true)) h =
+      let number = number_of_subject about in
+      inr (refl, of_one (entries p) k t number r e (wait_told (entries p) number (number_given p.core.vars id) t.id h))
   waits_by (statement.Transfer x) h = by (is_asynchronous x) h
     where
       by : (b : Bool) → tells_id (if b then [] else of_unit (entries p) (number_of x.unit)) t.id ≡ true → (b ≡ false) × (number_of x.unit ≡ Some t.unit)
@@ -297,8 +301,9 @@ waits_same f g (statement.OpenUnit u spec iostat) n h w = w
 waits_same f g (statement.CloseUnit u keep iostat) n h w = w
 waits_same f g (statement.WaitFor u id iostat) n h w = w
 waits_same f g (statement.Move how u iostat) n h w = w
-waits_same f g (statement.Inquire (subject.Unit u) asked id iostat) n h w = w
-waits_same f g (statement.Inquire (subject.File name) asked id iostat) n h w = (w.0, sym (h name) ∙ w.1)
+waits_same f g (statement.Inquire (subject.Unit u) asked id iostat _) n h w = w
+waits_same f g (statement.Inquire (subject.File name) asked id iostat _) n h (inl w) = inl (w.0, sym (h name) ∙ w.1)
+waits_same f g (statement.Inquire (subject.File name) asked id iostat _) n h (inr w) = inr w
 waits_same f g (statement.Transfer t) n h w = w
 waits_same f g statement.End n h w = w
 

@@ -139,7 +139,7 @@ module _ (Q : List ℕ → Type 0) where
     own_connects (statement.CloseUnit u keep iostat) h = closes_connect core keep (unit_at core (number_of u))
     own_connects (statement.WaitFor u id iostat) h = tt
     own_connects (statement.Move how u iostat) h = moves_connect core how (unit_at core (number_of u))
-    own_connects (statement.Inquire subject asked id iostat) h =
+    own_connects (statement.Inquire subject asked id iostat _) h =
         let number = unit_about (unit_named core.units) subject in inquires_connect variables core number (file_asked subject) asked (number_given core.vars id) (unit_at core number)
     own_connects (statement.Transfer t) h = transfer_connects control variables line core t (moved_in variables core.vars t) t.unit
     own_connects statement.End h = end_connects core.units core Fine
@@ -169,6 +169,6 @@ opened_about names (statement.OpenUnit u spec iostat) name e = e
 opened_about names (statement.CloseUnit u keep iostat) name e = cc
 opened_about names (statement.WaitFor u id iostat) name e = cc
 opened_about names (statement.Move how u iostat) name e = cc
-opened_about names (statement.Inquire subject asked id iostat) name e = cc
+opened_about names (statement.Inquire subject asked id iostat _) name e = cc
 opened_about names (statement.Transfer t) name e = cc
 opened_about names statement.End name e = cc

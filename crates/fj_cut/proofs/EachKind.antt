@@ -373,7 +373,7 @@ module _ (name : List ℕ) (due : Option (List ℕ)) (NotOpened NotAbout : Type 
     own_stays (statement.CloseUnit u keep iostat) opened about = close_at ds core keep (number_of u) r (deletes_about (names_of core.units) u keep iostat about)
     own_stays (statement.WaitFor u id iostat) opened about = ready_point ds core r
     own_stays (statement.Move how u iostat) opened about = moves_at ds core how (number_of u) r (endfile_about (names_of core.units) how u iostat about)
-    own_stays (statement.Inquire subject asked id iostat) opened about =
+    own_stays (statement.Inquire subject asked id iostat _) opened about =
         let number = unit_about (unit_named core.units) subject in inquires_stay variables ds core number (file_asked subject) asked (number_given core.vars id) (unit_at core number) r
     own_stays (statement.Transfer t) opened about = transfer_stays control variables line ds core t (moved_in variables core.vars t) t.unit r about
     own_stays statement.End opened about = end_stays ds core Fine r

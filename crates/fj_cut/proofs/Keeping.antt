@@ -126,7 +126,7 @@ told_stays variables st told core name what is about new = by what about new (λ
     by (statement.Move motion.Backspace u iostat) e n back = cc
     by (statement.Move motion.Rewind u iostat) e n back = cc
     by (statement.Move motion.Flush u iostat) e n back = cc
-    by (statement.Inquire subject asked id iostat) e n back = cc
+    by (statement.Inquire subject asked id iostat _) e n back = cc
     by (statement.Transfer t) e n back = (halts_behind (back (transfer_does core.units st.1 variables st.0.line now refl t (condition_of told))), numbered_has core.units (number_of t.unit) name e)
     by statement.End e n back = cc
 

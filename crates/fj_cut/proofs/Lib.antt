@@ -15,6 +15,7 @@ pub mod Opened
 pub mod Seats
 pub mod Awaited
 pub mod OneUnit
+pub mod AsWait
 pub mod Submitted
 pub mod Rests
 pub mod Given

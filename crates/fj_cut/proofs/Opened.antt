@@ -90,6 +90,6 @@ opened_so variables st p jobs slot job core g = by st.0.what refl
     by (statement.CloseUnit u keep iostat) is = refl
     by (statement.WaitFor u id iostat) is = refl
     by (statement.Move how u iostat) is = refl
-    by (statement.Inquire subject asked id iostat) is = refl
+    by (statement.Inquire subject asked id iostat _) is = refl
     by (statement.Transfer t) is = refl
     by statement.End is = refl

@@ -222,7 +222,7 @@ module _ (control : ℕ → List Given) (variables : List Variable) (line : ℕ)
   own_ends (statement.CloseUnit u keep iostat) h l = closes_ends core keep (number_of u) h l
   own_ends (statement.WaitFor u id iostat) h l = h
   own_ends (statement.Move how u iostat) h l = moves_ends core how (unit_at core (number_of u)) h
-  own_ends (statement.Inquire subject asked id iostat) h l =
+  own_ends (statement.Inquire subject asked id iostat _) h l =
       let number = unit_about (unit_named core.units) subject in inquires_ends variables core number (file_asked subject) asked (number_given core.vars id) (unit_at core number) h
   own_ends (statement.Transfer t) h l = transfer_ends control variables line core t (moved_in variables core.vars t) t.unit h
   own_ends statement.End h l = end_ends core.units core Fine l
@@ -317,7 +317,7 @@ module _ (variables : List Variable) (line : ℕ) (p : Desked) where
   left_told (statement.CloseUnit u keep iostat) = gone_told (number_of u)
   left_told (statement.WaitFor u id iostat) = tt
   left_told (statement.Move how u iostat) = tt
-  left_told (statement.Inquire subject asked id iostat) = tt
+  left_told (statement.Inquire subject asked id iostat _) = tt
   left_told (statement.Transfer t) = tt
   left_told statement.End = none_stays (λ (x : Pending). tells_id (entries p) x.id) p.core.book (all_told p.desks p.core.book)
 

@@ -50,7 +50,7 @@ opened_same names others (statement.OpenUnit u spec iostat) h = numbered_same na
 opened_same names others (statement.CloseUnit u keep iostat) h = refl
 opened_same names others (statement.WaitFor u id iostat) h = refl
 opened_same names others (statement.Move how u iostat) h = refl
-opened_same names others (statement.Inquire subject asked id iostat) h = refl
+opened_same names others (statement.Inquire subject asked id iostat _) h = refl
 opened_same names others (statement.Transfer t) h = refl
 opened_same names others statement.End h = refl
 
@@ -65,7 +65,7 @@ about_same names others (statement.Move motion.Endfile u iostat) h = numbered_al
 about_same names others (statement.Move motion.Backspace u iostat) h = refl
 about_same names others (statement.Move motion.Rewind u iostat) h = refl
 about_same names others (statement.Move motion.Flush u iostat) h = refl
-about_same names others (statement.Inquire subject asked id iostat) h = refl
+about_same names others (statement.Inquire subject asked id iostat _) h = refl
 about_same names others (statement.Transfer t) h = numbered_alike names others (number_of t.unit) h
 about_same names others statement.End h = refl
 
@@ -77,7 +77,7 @@ renewed_same names others (statement.CloseUnit u (Some true) iostat) h = refl
 renewed_same names others (statement.CloseUnit u (Some false) iostat) h = numbered_alike names others (number_of u) h
 renewed_same names others (statement.WaitFor u id iostat) h = refl
 renewed_same names others (statement.Move how u iostat) h = refl
-renewed_same names others (statement.Inquire subject asked id iostat) h = refl
+renewed_same names others (statement.Inquire subject asked id iostat _) h = refl
 renewed_same names others (statement.Transfer t) h = refl
 renewed_same names others statement.End h = refl
 

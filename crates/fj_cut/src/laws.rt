@@ -2,7 +2,7 @@
 ghost use Rattle.fj_cut.specs.Others.{OthersStay, UnitsKeepDesks, StopsLeaveOthers, CutRunsLeaveOthers};
 ghost use Rattle.fj_cut.specs.Stopping.{StopsAreGiven, TurnsAreGiven, EndsAreGiven};
 ghost use Rattle.fj_cut.specs.Turning.{TurnsDo, TurnsLeaveOthers, SubmitsLeaveOthers};
-ghost use Rattle.fj_cut.specs.Awaiting.{StopsAreAwaited, WaitsAtOneUnit};
+ghost use Rattle.fj_cut.specs.Awaiting.{StopsAreAwaited, WaitsAsWait, WaitsAtOneUnit};
 
 /// Inside a statement each file that it is not about is as closing all units just before it leaves it.
 pub fn others_stay()
@@ -47,6 +47,11 @@ pub fn stops_are_awaited()
 /// A statement but END waits at one unit at most.
 pub fn waits_at_one_unit()
     ensures { WaitsAtOneUnit }
+{}
+
+/// It waits there for the transfers that WAIT waits for; END waits for all, and INQUIRE may wait for a look.
+pub fn waits_as_wait()
+    ensures { WaitsAsWait }
 {}
 
 /// Where an answer is awaited each job of each slot was given by a statement not behind the one at hand.

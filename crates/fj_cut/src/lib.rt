@@ -14,5 +14,5 @@ pub use cases::{
 pub use laws::{
     cut_runs_leave_others, ends_are_given, others_stay, stops_are_awaited, stops_are_given,
     stops_leave_others, submits_leave_others, turns_are_given, turns_do, turns_leave_others,
-    units_keep_desks, waits_at_one_unit,
+    units_keep_desks, waits_as_wait, waits_at_one_unit,
 };

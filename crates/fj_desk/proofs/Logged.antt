@@ -95,7 +95,7 @@ module _ (control : ℕ → List Given) (variables : List Variable) (line : ℕ)
   own_given p s (statement.CloseUnit u keep iostat) t free after is = closes_given p s keep (number_of u) t after is
   own_given p s (statement.WaitFor u id iostat) t free after is = tt
   own_given p s (statement.Move how u iostat) t free after is = moves_given p s how (number_of u) t after is
-  own_given p s (statement.Inquire about asked id iostat) t free after is =
+  own_given p s (statement.Inquire about asked id iostat _) t free after is =
       subst (λ n. Both (IsGiven p.core.units after) (given p.desks (inquires variables p.core (unit_about (unit_named p.core.units) about) (file_asked about) asked (number_given p.core.vars id) (unit_at p.core (unit_about (unit_named p.core.units) about)))) (look_jobs asked (meant.unit_at s n)))
       (asked_same about)
       (inquires_given variables p s (unit_about (unit_named p.core.units) about) (file_asked about) asked (number_given p.core.vars id) t after is)
@@ -112,7 +112,7 @@ module _ (control : ℕ → List Given) (variables : List Variable) (line : ℕ)
   instead_given p s (statement.CloseUnit u keep iostat) condition t after is = closes_anyway_given p s keep condition (number_of u) t after is
   instead_given p s (statement.WaitFor u id iostat) condition t after is = tt
   instead_given p s (statement.Move how u iostat) condition t after is = tt
-  instead_given p s (statement.Inquire about asked id iostat) condition t after is = tt
+  instead_given p s (statement.Inquire about asked id iostat _) condition t after is = tt
   instead_given p s (statement.Transfer tr) condition t after is = tt
   instead_given p s statement.End condition t after is = ends_given p s condition t after is
 

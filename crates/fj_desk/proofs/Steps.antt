@@ -13,7 +13,8 @@ use Rattle.fj_statement.specs.declared.deck.Variable.{Variable}
 use Rattle.fj_statement.specs.declared.statement.Statement.{Statement}
 use Rattle.fj_statement.specs.declared.statement.Statement.TheVariants as statement
 use Rattle.fj_store.specs.Variables.{Variables}
-use Rattle.fj_plain.specs.Items.{operand_places, value_of}
+use Rattle.fj_plain.specs.Inquiring.{none_pending}
+use Rattle.fj_plain.specs.Items.{given_back, operand_places, value_of}
 use Rattle.fj_book.specs.Prohibitions.{prohibited}
 use Rattle.fj_plain.specs.Needs.{need, need_by, inquiry_need, number_of, subject_places, unit_about, unit_of_file, holders}
 use Rattle.fj_plain.specs.State.{State, Entry, found}
@@ -91,7 +92,7 @@ Freed (statement.OpenUnit u spec iostat) vs = (n : ℕ) → number_of u ≡ Some
 Freed (statement.CloseUnit u keep iostat) vs = (n : ℕ) → number_of u ≡ Some n → Free n vs
 Freed (statement.WaitFor u id iostat) vs = Unit {0}
 Freed (statement.Move how u iostat) vs = Unit {0}
-Freed (statement.Inquire about asked id iostat) vs = Unit {0}
+Freed (statement.Inquire about asked id iostat _) vs = Unit {0}
 Freed (statement.Transfer t) vs = is_asynchronous t ≡ false → (n : ℕ) → number_of t.unit ≡ Some n → Free n vs
 Freed statement.End vs = AllFree vs
 
@@ -105,7 +106,7 @@ freed book vars (statement.OpenUnit u spec iostat) vs h = λ n e. freed_of book 
 freed book vars (statement.CloseUnit u keep iostat) vs h = λ n e. freed_of book (number_of u) vs h n e
 freed book vars (statement.WaitFor u id iostat) vs h = tt
 freed book vars (statement.Move how u iostat) vs h = tt
-freed book vars (statement.Inquire about asked id iostat) vs h = tt
+freed book vars (statement.Inquire about asked id iostat _) vs h = tt
 freed book vars (statement.Transfer t) vs h = λ q n e. by (is_asynchronous t) q n e
   where
     by : (b : Bool) → b ≡ false → (n : ℕ) → number_of t.unit ≡ Some n → Free n (map (without_halt (if b then [] else of_unit book (number_of t.unit))) vs)
@@ -131,7 +132,7 @@ module _ (control : ℕ → List Given) (variables : List Variable) (line : ℕ)
   own_tied p s (statement.CloseUnit u keep iostat) t free = closes_tied p s keep (number_of u) t free
   own_tied p s (statement.WaitFor u id iostat) t free = (refl, t)
   own_tied p s (statement.Move how u iostat) t free = moves_tied p s how (number_of u) t
-  own_tied p s (statement.Inquire about asked id iostat) t free = inquires_tied variables p s about asked id t
+  own_tied p s (statement.Inquire about asked id iostat _) t free = inquires_tied variables p s about asked id t
   own_tied p s (statement.Transfer tr) t free = transfer_tied control variables line p s tr t free
   own_tied p s statement.End t free = ends_tied p s Fine t free
 
@@ -141,7 +142,10 @@ module _ (control : ℕ → List Given) (variables : List Variable) (line : ℕ)
   instead_tied p s (statement.CloseUnit u keep iostat) condition t free = closes_anyway_tied p s keep condition (number_of u) t free
   instead_tied p s (statement.WaitFor u id iostat) condition t free = (refl, t)
   instead_tied p s (statement.Move how u iostat) condition t free = (refl, t)
-  instead_tied p s (statement.Inquire about asked id iostat) condition t free = (refl, t)
+  instead_tied p s (statement.Inquire about asked id iostat _) condition t free = (
+    refl,
+    with_vars p s (given_back variables (none_pending asked) p.core.vars) (given_back variables (none_pending asked) s.vars) (ap (given_back variables (none_pending asked)) t.same.vars) t,
+  )
   instead_tied p s (statement.Transfer tr) condition t free = nothing_tied control variables line p s tr condition t
   instead_tied p s statement.End condition t free = ends_tied p s condition t free
 
@@ -192,7 +196,7 @@ need_same variables vars desks us vs (statement.OpenUnit u spec iostat) b = refl
 need_same variables vars desks us vs (statement.CloseUnit u keep iostat) b = refl
 need_same variables vars desks us vs (statement.WaitFor u id iostat) b = refl
 need_same variables vars desks us vs (statement.Move how u iostat) b = refl
-need_same variables vars desks us vs (statement.Inquire about asked id iostat) b = ap (λ n. inquiry_need variables vars n (subject_places about) asked id iostat) (by about)
+need_same variables vars desks us vs (statement.Inquire about asked id iostat _) b = ap (λ n. inquiry_need variables vars n (subject_places about) asked id iostat) (by about)
   where
     by : (about : Subject) → unit_about (unit_named us) about ≡ unit_about (unit_of_file vs) about
     by (subject.Unit ref) = refl

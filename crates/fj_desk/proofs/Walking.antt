@@ -109,7 +109,7 @@ module _ (P : Doing → Type 0) where
       behind (statement.CloseUnit u keep iostat) condition f g = f u keep iostat refl
       behind (statement.WaitFor u id iostat) condition f g = ends core.vars condition
       behind (statement.Move how u iostat) condition f g = ends core.vars condition
-      behind (statement.Inquire subject asked id iostat) condition f g = ends core.vars condition
+      behind (statement.Inquire subject asked id iostat _) condition f g = ends _ condition
       behind (statement.Transfer t) condition f g = ends _ condition
       behind statement.End condition f g = g refl
 

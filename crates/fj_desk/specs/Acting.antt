@@ -35,7 +35,7 @@ use Rattle.fj_plain.specs.State.{Files, with_file, without_file}
 use Rattle.fj_plain.specs.Telling.{is_asynchronous}
 use Rattle.fj_plain.specs.Transfers.{inside, moved_in, spec_in, layout_of, refusal, without_values, with_cells, with_number, held_places, star_printed}
 use Rattle.fj_plain.specs.Connecting.{file_due, keeps_name}
-use Rattle.fj_plain.specs.Inquiring.{About, inquired}
+use Rattle.fj_plain.specs.Inquiring.{About, inquired, none_pending}
 use Rattle.fj_plain.specs.Statement.{assigned, has_pending, about_other, about_connected, file_asked}
 use Rattle.fj_desk.specs.Core.{Core, Pending, Connected, connected_at, unit_named, with_connected, inserted, without_connected, pending_holders}
 use Rattle.fj_desk.specs.Desks.{Outcome, cells_in, count_in, connection_in, look_in, condition_in, most_slots}
@@ -253,7 +253,7 @@ own control variables line core (statement.OpenUnit u spec iostat) = if_numbered
 own control variables line core (statement.CloseUnit u keep iostat) = closes core keep (unit_at core (number_of u))
 own control variables line core (statement.WaitFor u id iostat) = finishes core Fine
 own control variables line core (statement.Move how u iostat) = moves core how (unit_at core (number_of u))
-own control variables line core (statement.Inquire subject asked id iostat) =
+own control variables line core (statement.Inquire subject asked id iostat _) =
     let number = unit_about (unit_named core.units) subject in inquires variables core number (file_asked subject) asked (number_given core.vars id) (unit_at core number)
 own control variables line core (statement.Transfer t) = transfer_at control variables line core t (moved_in variables core.vars t) t.unit
 own control variables line core statement.End = all_closed core.units core Fine
@@ -261,6 +261,7 @@ own control variables line core statement.End = all_closed core.units core Fine
 -- what is done in its place where a condition of a transfer was told
 abbrev pub instead : List Variable → Core → Statement → Condition → Doing
 instead variables core (statement.CloseUnit u keep iostat) condition = closes_anyway core keep condition (unit_at core (number_of u))
+instead variables core (statement.Inquire subject asked id iostat _) condition = finishes (record core { vars = given_back variables (none_pending asked) core.vars }) condition
 instead variables core (statement.Transfer t) condition = finishes (with_items_out variables core t (moved_in variables core.vars t)) condition
 instead variables core statement.End condition = all_closed core.units core condition
 instead variables core _ condition = finishes core condition

@@ -58,8 +58,8 @@ LowestFreeSlots = let it = ran [] (lines_from 1 (opening 10 (replacing (codes "A
 -- the modes of the connected file change by a job, and a look is one; a question of the unit alone is none
 abbrev pub ChangesAndLooks : Type 0
 ChangesAndLooks = let it = ran (integers 1) (lines_from 2 (opening 10 (replacing (codes "A")) None ∷ opening 10 (record plain_open { blank_zero = Some true }) None
-    ∷ bare (statement.Inquire (subject.Unit (unit.Number 10)) (record { what = Size; place = at 0; kind = Int4 } ∷ []) None None)
-    ∷ bare (statement.Inquire (subject.Unit (unit.Number 10)) (record { what = Opened; place = at 0; kind = Int4 } ∷ []) None None) ∷ [])) no_files in
+    ∷ bare (statement.Inquire (subject.Unit (unit.Number 10)) (record { what = Size; place = at 0; kind = Int4 } ∷ []) None None None)
+    ∷ bare (statement.Inquire (subject.Unit (unit.Number 10)) (record { what = Opened; place = at 0; kind = Int4 } ∷ []) None None None) ∷ [])) no_files in
     answers_at it 0 ≡ done Fine ∷ done Fine ∷ done Fine ∷ []
 
 -- after an error stop the pending WRITEs are in the file, and no job took the connection out

@@ -120,7 +120,7 @@ own_jobs control variables line s (statement.OpenUnit u spec iostat) = numbered_
 own_jobs control variables line s (statement.CloseUnit u keep iostat) = close_jobs keep (unit_at s (number_of u))
 own_jobs control variables line s (statement.WaitFor u id iostat) = []
 own_jobs control variables line s (statement.Move how u iostat) = motion_jobs how (unit_at s (number_of u))
-own_jobs control variables line s (statement.Inquire about asked id iostat) = look_jobs asked (unit_at s (unit_asked s about))
+own_jobs control variables line s (statement.Inquire about asked id iostat _) = look_jobs asked (unit_at s (unit_asked s about))
 own_jobs control variables line s (statement.Transfer t) = fitting_jobs control variables line s t (unit_at s (number_of t.unit))
 own_jobs control variables line s statement.End = all_out s.units
 

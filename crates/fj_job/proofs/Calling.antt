@@ -40,7 +40,7 @@ waits_nowhere s (statement.OpenUnit u spec iostat) number e w = cc
 waits_nowhere s (statement.CloseUnit u keep iostat) number e w = cc
 waits_nowhere s (statement.WaitFor u id iostat) number e w = cc
 waits_nowhere s (statement.Move how u iostat) number e w = cc
-waits_nowhere s (statement.Inquire about asked id iostat) number e w = cc
+waits_nowhere s (statement.Inquire about asked id iostat _) number e w = cc
 waits_nowhere s (statement.Transfer t) number e w = no_number t.unit number (sym (ap (λ b. b || is_none (number_of t.unit)) w.0) ∙ e) w.1
 waits_nowhere s statement.End number e w = cc
 
@@ -50,7 +50,7 @@ calls_nothing (statement.OpenUnit u spec iostat) e c = cc
 calls_nothing (statement.CloseUnit u keep iostat) e c = cc
 calls_nothing (statement.WaitFor u id iostat) e c = cc
 calls_nothing (statement.Move how u iostat) e c = cc
-calls_nothing (statement.Inquire about asked id iostat) e c = cc
+calls_nothing (statement.Inquire about asked id iostat _) e c = cc
 calls_nothing (statement.Transfer t) e c = cc
 calls_nothing statement.End e c = cc
 
@@ -102,7 +102,7 @@ module _ (control : ℕ → List Given) (variables : List Variable) (s : State) 
   own_leaves (statement.Move how (unit.Held place n) iostat) e = moves_leave how (found s.units n)
   own_leaves (statement.Move how (unit.New place n) iostat) e = moves_leave how (found s.units n)
   own_leaves (statement.Move how (unit.Internal file) iostat) e = refl
-  own_leaves (statement.Inquire about asked id iostat) e = refl
+  own_leaves (statement.Inquire about asked id iostat _) e = refl
   own_leaves (statement.Transfer t) e = transfer_leaves t (moved_by variables s t) t.unit
   own_leaves statement.End e = cc
 
@@ -112,7 +112,7 @@ module _ (control : ℕ → List Given) (variables : List Variable) (s : State) 
   instead_leaves (statement.CloseUnit u keep iostat) e = cc
   instead_leaves (statement.WaitFor u id iostat) e = refl
   instead_leaves (statement.Move how u iostat) e = refl
-  instead_leaves (statement.Inquire about asked id iostat) e = refl
+  instead_leaves (statement.Inquire about asked id iostat _) e = refl
   instead_leaves (statement.Transfer t) e = refl
   instead_leaves statement.End e = cc
 

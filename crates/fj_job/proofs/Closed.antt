@@ -227,7 +227,7 @@ module _ (control : ℕ → List Given) (variables : List Variable) (s : State) 
   instead_same (statement.CloseUnit (unit.Internal file) keep iostat) = refl
   instead_same (statement.WaitFor u id iostat) = refl
   instead_same (statement.Move how u iostat) = refl
-  instead_same (statement.Inquire subject asked id iostat) = refl
+  instead_same (statement.Inquire subject asked id iostat _) = refl
   instead_same (statement.Transfer t) = refl
   instead_same statement.End = refl
 
@@ -257,7 +257,7 @@ module _ (control : ℕ → List Given) (variables : List Variable) (s : State) 
   own_follows (statement.Move how (unit.Held place n) iostat) = follows_same _ _ (moves_same control variables s how (found s.units n))
   own_follows (statement.Move how (unit.New place n) iostat) = follows_same _ _ (moves_same control variables s how (found s.units n))
   own_follows (statement.Move how (unit.Internal file) iostat) = follows_same _ _ refl
-  own_follows (statement.Inquire subject asked id iostat) = follows_same _ _ refl
+  own_follows (statement.Inquire subject asked id iostat _) = follows_same _ _ refl
   own_follows (statement.Transfer t) = transfer_follows t (moved_by variables s t) t.unit
   own_follows statement.End = follows_same _ _ refl
 

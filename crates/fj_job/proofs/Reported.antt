@@ -114,7 +114,7 @@ opened_renewed names (statement.OpenUnit u spec iostat) name e = e
 opened_renewed names (statement.CloseUnit u keep iostat) name e = cc
 opened_renewed names (statement.WaitFor u id iostat) name e = cc
 opened_renewed names (statement.Move how u iostat) name e = cc
-opened_renewed names (statement.Inquire subject asked id iostat) name e = cc
+opened_renewed names (statement.Inquire subject asked id iostat _) name e = cc
 opened_renewed names (statement.Transfer t) name e = cc
 opened_renewed names statement.End name e = cc
 

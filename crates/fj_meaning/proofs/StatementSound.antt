@@ -157,7 +157,7 @@ inquired_is s i m h =
     let asked = bound (each (wanted s) i.asked) _ m about.2 in
     let id = bound (optional (integer_operand s) i.id) _ m asked.2 in
     let told = bound (optional (integer_place s) i.iostat) _ m id.2 in
-    subst (IsSoundStatement s.variables) (some_is (statement.Inquire about.0 asked.0 id.0 told.0) m told.2) (record {
+    subst (IsSoundStatement s.variables) (some_is (statement.Inquire about.0 asked.0 id.0 told.0 None) m told.2) (record {
       subject_is = subject_is s i.about about.0 about.1;
       questions = each_is (wanted s) (IsAsked s.variables) (wanted_is s) i.asked asked.0 asked.1;
       id_is = given_is (integer_operand s) (IsIntegerOperand s.variables) (integer_operand_is s) i.id id.0 id.1;

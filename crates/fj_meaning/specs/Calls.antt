@@ -122,4 +122,4 @@ inquired s i = do
   asked ← each (wanted s) i.asked
   id ← optional (integer_operand s) i.id
   iostat ← optional (integer_place s) i.iostat
-  Some (statement.Inquire about asked id iostat)
+  Some (statement.Inquire about asked id iostat None)

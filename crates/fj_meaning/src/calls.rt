@@ -168,5 +168,6 @@ pub fn inquired(alloc: Global, names: &Names, inquire: Inquire) -> Result<Statem
         asked,
         id,
         iostat,
+        done: None,
     })
 }

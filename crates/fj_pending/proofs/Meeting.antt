@@ -27,8 +27,8 @@ same_need variables vars named unit_named (statement.OpenUnit u spec iostat) ask
 same_need variables vars named unit_named (statement.CloseUnit u keep iostat) asked = refl
 same_need variables vars named unit_named (statement.WaitFor u id iostat) asked = refl
 same_need variables vars named unit_named (statement.Move how u iostat) asked = refl
-same_need variables vars named unit_named (statement.Inquire (subject.Unit u) asked id iostat) is = refl
-same_need variables vars named unit_named (statement.Inquire (subject.File name) asked id iostat) is = ap (λ unit. inquiry_need variables vars unit [] asked id iostat) is
+same_need variables vars named unit_named (statement.Inquire (subject.Unit u) asked id iostat _) is = refl
+same_need variables vars named unit_named (statement.Inquire (subject.File name) asked id iostat _) is = ap (λ unit. inquiry_need variables vars unit [] asked id iostat) is
 same_need variables vars named unit_named (statement.Transfer t) asked = refl
 same_need variables vars named unit_named statement.End asked = refl
 

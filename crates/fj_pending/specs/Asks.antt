@@ -17,5 +17,5 @@ IsUnitOf named unit_named (subject.Unit u) = Unit {0}
 IsUnitOf named unit_named (subject.File name) = named ≡ unit_named name
 
 abbrev pub IsUnitAsked : Option ℕ → (List ℕ → Option ℕ) → Statement → Type 0
-IsUnitAsked named unit_named (statement.Inquire about asked id iostat) = IsUnitOf named unit_named about
+IsUnitAsked named unit_named (statement.Inquire about asked id iostat _) = IsUnitOf named unit_named about
 IsUnitAsked named unit_named st = Unit {0}

@@ -235,6 +235,7 @@ impl<'a> Needs for Parts<'a> {
                 asked: _,
                 id: _,
                 iostat: _,
+                done: _,
             } => unit_in(about, self.named),
             Statement::Transfer(transfer) => transfer.unit.number(),
             _ => None,
@@ -281,6 +282,7 @@ impl<'a> Needs for Parts<'a> {
                 asked,
                 id: _,
                 iostat,
+                done: _,
             } => any_asked(asked.as_slice(), *iostat, test),
             Statement::Transfer(transfer) => any_got(self.variables, transfer, test),
             Statement::End => false,
@@ -295,6 +297,7 @@ impl<'a> Needs for Parts<'a> {
                 asked,
                 id: _,
                 iostat,
+                done: _,
             } => asks_twice(asked.as_slice(), *iostat),
             Statement::Transfer(transfer) => {
                 specifies_twice(transfer)

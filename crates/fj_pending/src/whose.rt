@@ -4,13 +4,13 @@ ghost use Rattle.fj_store.specs.Storage.{values_of};
 ghost use Rattle.fj_store.specs.Variables.{value_at};
 ghost use Rattle.fj_plain.specs.State.{Entry};
 ghost use Rattle.fj_plain.specs.Items.{integer_of, value_of};
-ghost use Rattle.fj_plain.specs.Needs.{number_of, number_given};
-ghost use Rattle.fj_plain.specs.Telling.{of_unit, waited_by, waited_in};
+ghost use Rattle.fj_plain.specs.Needs.{number_of, number_given, number_of_subject};
+ghost use Rattle.fj_plain.specs.Telling.{if_done, of_unit, waited_by, waited_in};
 ghost use Rattle.fj_pending.specs.Plain.{entries};
 ghost use Rattle.fj_pending.specs.Waits.{waited_of};
 
 use crate::pendings::Pendings;
-use fj_statement::{Operand, Statement, UnitRef};
+use fj_statement::{Operand, Statement, Subject, UnitRef};
 use fj_store::Store;
 use fj_value::{Place, Value};
 
@@ -87,6 +87,19 @@ fn by_id(unit: UnitRef, id: Option<i64>) -> Whose
     }
 }
 
+/// What INQUIRE waits for: nothing, unless the transfers that PENDING= asks about are done.
+fn inquires_for(about: &Subject, done: Option<bool>, id: Option<i64>) -> Whose
+    ensures { (es : List Entry) → waited_of result es ≡ if_done done (waited_by es (number_of_subject about.now) id) }
+{
+    match done {
+        Some(true) => match about {
+            Subject::Unit(unit) => by_id(*unit, id),
+            Subject::File(_) => Whose::None,
+        },
+        Some(false) | None => Whose::None,
+    }
+}
+
 /// Which transfers a statement waits for.
 pub fn waits_for(statement: &Statement, store: &Store) -> Whose
     ensures { (es : List Entry) → waited_of result es ≡ waited_in es (values_of store.now) statement.now }
@@ -114,11 +127,12 @@ pub fn waits_for(statement: &Statement, store: &Store) -> Whose
             iostat: _,
         } => of_unit(*unit),
         Statement::Inquire {
-            about: _,
+            about,
             asked: _,
-            id: _,
+            id,
             iostat: _,
-        } => Whose::None,
+            done,
+        } => inquires_for(about, *done, number_given(store, id)),
         Statement::Transfer(transfer) => {
             if transfer.asynchronous.unwrap_or(false) {
                 Whose::None

@@ -28,8 +28,8 @@ with_twice m n (statement.OpenUnit u spec iostat) = ap (λ x. statement.OpenUnit
 with_twice m n (statement.CloseUnit u keep iostat) = ap (λ x. statement.CloseUnit x keep iostat) (numbered_twice m n u)
 with_twice m n (statement.WaitFor u id iostat) = ap (λ x. statement.WaitFor x id iostat) (numbered_twice m n u)
 with_twice m n (statement.Move how u iostat) = ap (λ x. statement.Move how x iostat) (numbered_twice m n u)
-with_twice m n (statement.Inquire (subject.Unit u) asked id iostat) = ap (λ x. statement.Inquire (subject.Unit x) asked id iostat) (numbered_twice m n u)
-with_twice m n (statement.Inquire (subject.File name) asked id iostat) = refl
+with_twice m n (statement.Inquire (subject.Unit u) asked id iostat done) = ap (λ x. statement.Inquire (subject.Unit x) asked id iostat done) (numbered_twice m n u)
+with_twice m n (statement.Inquire (subject.File name) asked id iostat _) = refl
 with_twice m n (statement.Transfer t) = ap (λ x. statement.Transfer (record t { unit = x })) (numbered_twice m n t.unit)
 with_twice m n statement.End = refl
 
@@ -48,8 +48,8 @@ due_same at new m (statement.OpenUnit u spec iostat) = due_for at new m u
 due_same at new m (statement.CloseUnit u keep iostat) = due_for at new m u
 due_same at new m (statement.WaitFor u id iostat) = due_for at new m u
 due_same at new m (statement.Move how u iostat) = due_for at new m u
-due_same at new m (statement.Inquire (subject.Unit u) asked id iostat) = due_for at new m u
-due_same at new m (statement.Inquire (subject.File name) asked id iostat) = refl
+due_same at new m (statement.Inquire (subject.Unit u) asked id iostat _) = due_for at new m u
+due_same at new m (statement.Inquire (subject.File name) asked id iostat _) = refl
 due_same at new m (statement.Transfer t) = due_for at new m t.unit
 due_same at new m statement.End = refl
 
@@ -69,7 +69,7 @@ with_later n (statement.OpenUnit u spec iostat) = refl
 with_later n (statement.CloseUnit u keep iostat) = refl
 with_later n (statement.WaitFor u id iostat) = refl
 with_later n (statement.Move how u iostat) = refl
-with_later n (statement.Inquire (subject.Unit u) asked id iostat) = refl
-with_later n (statement.Inquire (subject.File name) asked id iostat) = refl
+with_later n (statement.Inquire (subject.Unit u) asked id iostat _) = refl
+with_later n (statement.Inquire (subject.File name) asked id iostat _) = refl
 with_later n (statement.Transfer t) = refl
 with_later n statement.End = refl

@@ -43,7 +43,7 @@ use Rattle.fj_store.proofs.TableLemmas.{places_tell, at_same, at_other, with_mis
 use Rattle.fj_plain.specs.Items.{kind_of, value_for, given_back, operand_places, value_of}
 use Rattle.fj_statement.specs.Units.{is_outside, number_from_code}
 use Rattle.fj_plain.specs.Needs.{need, holders, number_of, given_number, unit_asked}
-use Rattle.fj_plain.specs.Inquiring.{inquired}
+use Rattle.fj_plain.specs.Inquiring.{inquired, none_pending}
 use Rattle.fj_plain.specs.Telling.{count_for, with_size, with_input, with_inputs, is_asynchronous, waited, condition_of, after_tells}
 use Rattle.fj_plain.specs.Transfers.{without_values, with_number, moved_by, spec_in, spec_of, layout_of, refusal, carried_out, made_pending, transferred, unless_refused, on_unit, file_cells, with_taken, with_put, inside, transfer_at}
 use Rattle.fj_plain.specs.Transfers as transfer
@@ -312,7 +312,7 @@ module _ (variables : List Variable) where
       left_so (closes s keep (unit_at s (number_of u))).0.vars s.vars (closes_leaves s keep (unit_at s (number_of u))) are
   own_so control s (statement.WaitFor u id iostat) are = are
   own_so control s (statement.Move how u iostat) are = left_so (moves s how (unit_at s (number_of u))).0.vars s.vars (moves_leaves s how (unit_at s (number_of u))) are
-  own_so control s (statement.Inquire subject asked id iostat) are =
+  own_so control s (statement.Inquire subject asked id iostat _) are =
       given_so (inquired (about s (unit_asked s subject) (file_asked subject) (given_number s id) (unit_at s (unit_asked s subject))) asked) s.vars are
   own_so control s (statement.Transfer t) are = transfer_so control s t t.unit are
   own_so control s statement.End are = are
@@ -324,7 +324,7 @@ module _ (variables : List Variable) where
       left_so (closes_anyway s keep (unit_at s (number_of u))).vars s.vars (anyway_leaves s keep (unit_at s (number_of u))) are
   instead_so s (statement.WaitFor u id iostat) are = are
   instead_so s (statement.Move how u iostat) are = are
-  instead_so s (statement.Inquire subject asked id iostat) are = are
+  instead_so s (statement.Inquire subject asked id iostat _) are = given_so (none_pending asked) s.vars are
   instead_so s (statement.Transfer t) are = without_so t (moved_by variables s t) s.vars are
   instead_so s statement.End are = are
 

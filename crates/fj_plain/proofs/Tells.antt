@@ -11,8 +11,8 @@ use Rattle.fj_value.specs.declared.condition.Condition.TheVariants.{Fine, EndOfF
 use Rattle.fj_statement.specs.declared.deck.Variable.{Variable}
 use Rattle.fj_statement.specs.declared.statement.Statement.{Statement}
 use Rattle.fj_statement.specs.declared.statement.Statement.TheVariants as statement
-use Rattle.fj_plain.specs.Needs.{number_of, given_number}
-use Rattle.fj_plain.specs.Telling.{of_unit, of_id, graver, condition_of, waited_by, waited, is_asynchronous, is_told, after_tells}
+use Rattle.fj_plain.specs.Needs.{number_of, number_of_subject, given_number}
+use Rattle.fj_plain.specs.Telling.{of_unit, of_id, graver, condition_of, waited_by, if_done, waited, is_asynchronous, is_told, after_tells}
 use Rattle.fj_plain.specs.State.{State, Unit, Entry, halts}
 use Rattle.fj_plain.specs.Reaching.{cause_of}
 use Rattle.fj_plain.specs.HaltLaws.{IsSkipped}
@@ -141,13 +141,19 @@ chosen_wait book number (Some id) = by (halts (condition_of (of_id book number i
     by true e = of_all (chosen_by book number)
     by false e = chosen_id book number id e
 
+chosen_done : (book es : List Entry) (done : Option Bool) → Chosen book es None → Chosen book (if_done done es) None
+chosen_done book es (Some true) c = c
+chosen_done book es (Some false) c = chosen_none book
+chosen_done book es None c = chosen_none book
+
 pub chosen : (s : State) (what : Statement) → Chosen s.book (waited s what) (emptied what)
 chosen s (statement.Assign to from) = chosen_none s.book
 chosen s (statement.OpenUnit u spec iostat) = chosen_by s.book (number_of u)
 chosen s (statement.CloseUnit u keep iostat) = chosen_by s.book (number_of u)
 chosen s (statement.WaitFor u id iostat) = chosen_wait s.book (number_of u) (given_number s id)
 chosen s (statement.Move how u iostat) = chosen_by s.book (number_of u)
-chosen s (statement.Inquire about asked id iostat) = chosen_none s.book
+chosen s (statement.Inquire about asked id iostat done) =
+    chosen_done s.book (waited_by s.book (number_of_subject about) (given_number s id)) done (chosen_wait s.book (number_of_subject about) (given_number s id))
 chosen s (statement.Transfer t) = by (is_asynchronous t)
   where
     by : (b : Bool) → Chosen s.book (if b then [] else of_unit s.book (number_of t.unit)) (if b then None else number_of t.unit)

@@ -103,7 +103,7 @@ not_pending variables s (statement.OpenUnit u spec iostat) h = refl
 not_pending variables s (statement.CloseUnit u keep iostat) h = refl
 not_pending variables s (statement.WaitFor u id iostat) h = refl
 not_pending variables s (statement.Move how u iostat) h = refl
-not_pending variables s (statement.Inquire subject asked id iostat) h = refl
+not_pending variables s (statement.Inquire subject asked id iostat _) h = refl
 not_pending variables s (statement.Transfer t) h = and_left (is_asynchronous t) (fits variables s t (unit_at s (number_of t.unit))) h
 not_pending variables s statement.End h = refl
 
@@ -156,7 +156,7 @@ module _ (control : ℕ → List Given) (variables : List Variable) (line : ℕ)
   acts_stays (statement.CloseUnit u keep iostat) true h = no h
   acts_stays (statement.WaitFor u id iostat) true h = no h
   acts_stays (statement.Move how u iostat) true h = no h
-  acts_stays (statement.Inquire subject asked id iostat) true h = no h
+  acts_stays (statement.Inquire subject asked id iostat _) true h = no h
   acts_stays (statement.Transfer t) true h = later_stays t h
   acts_stays statement.End true h = no h
 

@@ -262,7 +262,7 @@ own_walk control variables (statement.Move how u iostat) s P w = by (number_of u
     by : (o : Option ℕ) → P (moves s how (unit_at s o)).0
     by None = w.same
     by (Some n) = moves_walk control variables (statement.Move how u iostat) s P w n how (found s.units n) refl
-own_walk control variables (statement.Inquire subject asked id iostat) s P w = w.defines s (own control variables s (statement.Inquire subject asked id iostat)).0.vars w.same
+own_walk control variables (statement.Inquire subject asked id iostat done) s P w = w.defines s (own control variables s (statement.Inquire subject asked id iostat done)).0.vars w.same
 own_walk control variables (statement.Transfer t) s P w = transfer_walk control variables (statement.Transfer t) s P w t t.unit refl
 own_walk control variables statement.End s P w = w.closes refl
 
@@ -276,7 +276,7 @@ instead_walk control variables (statement.CloseUnit u keep iostat) s P w = by (n
     by (Some n) e = anyway_walk control variables (statement.CloseUnit u keep iostat) s P w n keep (found s.units n) refl e
 instead_walk control variables (statement.WaitFor u id iostat) s P w = w.same
 instead_walk control variables (statement.Move how u iostat) s P w = w.same
-instead_walk control variables (statement.Inquire subject asked id iostat) s P w = w.same
+instead_walk control variables (statement.Inquire subject asked id iostat done) s P w = w.defines s (instead variables s (statement.Inquire subject asked id iostat done)).vars w.same
 instead_walk control variables (statement.Transfer t) s P w = nothing_walk control variables (statement.Transfer t) s P w t
 instead_walk control variables statement.End s P w = w.closes refl
 

@@ -1,7 +1,7 @@
 -- Worked cases: the order in which a statement goes, in decks whose results are computed. Other decks with their answers are in fj_cases.
-use Rattle.std.specs.Prelude.{◌≡◌, ℕ, ℤ, pos, negsuc, true, false, List, [], ◌∷◌, Some, None, map, codes}
+use Rattle.std.specs.Prelude.{◌≡◌, ℕ, ℤ, pos, negsuc, Bool, true, false, List, [], ◌∷◌, Option, Some, None, map, codes}
 use Rattle.fj_value.specs.declared.value.Value.{Value}
-use Rattle.fj_value.specs.declared.value.Value.TheVariants.{Int, Undefined, Chars}
+use Rattle.fj_value.specs.declared.value.Value.TheVariants.{Int, Log, Undefined, Chars}
 use Rattle.fj_value.specs.declared.kind.Kind.TheVariants as kind
 use Rattle.fj_value.specs.declared.condition.Rule.TheVariants.{P1}
 use Rattle.fj_value.specs.declared.condition.Condition.TheVariants.{Fine, EndOfFile, EndOfRecord}
@@ -9,15 +9,17 @@ use Rattle.fj_modes.specs.declared.specifiers.FileStatus.TheVariants.{Scratch}
 use Rattle.fj_modes.specs.declared.specifiers.Access.TheVariants.{Direct}
 use Rattle.fj_modes.specs.declared.specifiers.Action.TheVariants as action
 use Rattle.fj_modes.specs.declared.motion.Motion.TheVariants.{Rewind, Flush}
+use Rattle.fj_modes.specs.declared.asked.Question.TheVariants.{Opened, Pending}
 use Rattle.fj_statement.specs.declared.statement.Control.TheVariants.{Unformatted}
 use Rattle.fj_statement.specs.declared.statement.Statement.{Statement}
 use Rattle.fj_statement.specs.declared.statement.Statement.TheVariants as statement
-use Rattle.fj_plain.specs.State.{Tell}
+use Rattle.fj_plain.specs.State.{Files, Tell}
 use Rattle.fj_plain.specs.Statement.{execution, ended, error_stop, prohibition, Ending, Result}
-use Rattle.fj_plain.specs.DeckWords.{scalar, integers, at, var, whole, two_lines, no_files, file, lines_from, opening, replacing, old_later, plain_open, wait, «end», assign, transfer, i_transfer, a_transfer, slash_transfer, now, later, by_i, by_a, by_slash, bare, four_reads, read_later}
+use Rattle.fj_plain.specs.DeckWords.{scalar, integers, at, var, whole, two_lines, no_files, file, lines_from, Written, opening, replacing, old_later, plain_open, number_operand, wait, «end», assign, transfer, i_transfer, a_transfer, slash_transfer, now, later, by_i, by_a, by_slash, bare, four_reads, read_later}
 use Rattle.fj_list.specs.ListText.{text_of}
 use Rattle.fj_statement.specs.declared.unit.InternalFile.{InternalFile}
 use Rattle.fj_statement.specs.declared.unit.InternalFile.TheVariants.{One}
+use Rattle.fj_statement.specs.declared.unit.Subject.TheVariants as subject
 use Rattle.fj_statement.specs.declared.unit.UnitRef.TheVariants as unit
 use Rattle.fj_statement.specs.declared.statement.Transfer.{Transfer}
 
@@ -101,6 +103,30 @@ CloseThatErrs = Comes (execution (integers 5) (lines_from 2 (opening 10 (record 
     ∷ by_i 1 (now (record (i_transfer false 10 1 (whole (pos 5))) { iostat = Some (at 1) })) ∷ bare (statement.CloseUnit (unit.Number 11) None (Some (at 2)))
     ∷ bare (statement.Move Rewind (unit.Number 11) (Some (at 3))) ∷ bare (statement.Move Flush (unit.Number 11) (Some (at 4))) ∷ «end» ∷ [])) no_files)
     ended (int (pos 4) ∷ int (pos 0) ∷ int (pos 0) ∷ int (pos 1) ∷ int (pos 1) ∷ [])
+
+-- ---- INQUIRE, where it was looked at whether the transfers that it asks about are done
+
+-- PENDING= and OPENED= of unit 10, on which two READs are pending
+abbrev pub asks : Option ℤ → Bool → Written
+asks id is_done = bare (statement.Inquire (subject.Unit (unit.Number 10))
+    (record { what = Pending; place = at 2; kind = kind.Logical } ∷ record { what = Opened; place = at 3; kind = kind.Logical } ∷ []) (number_operand id) (Some (at 4)) (Some is_done))
+
+abbrev pub asked : Option ℤ → Bool → Files → Result
+asked id is_done files = execution (scalar kind.Int4 ∷ scalar kind.Int4 ∷ scalar kind.Logical ∷ scalar kind.Logical ∷ scalar kind.Int4 ∷ [])
+    (lines_from 4 (opening 10 (old_later (codes "R")) None ∷ read_later 10 1 0 ∷ read_later 10 1 1 ∷ asks id is_done ∷ «end» ∷ [])) files
+
+-- it waits for a transfer that is done, or for all of the unit, and tells it: that one is pending no more. It does not wait for one that is not done
+abbrev pub DoneAreTold : Type 0
+DoneAreTold = let one = asked (Some (pos 1)) true two_lines in let all = asked None true two_lines in let none = asked (Some (pos 1)) false two_lines in
+    Comes one ended (int (pos 1) ∷ int (pos 2) ∷ Log false ∷ Log true ∷ int (pos 0) ∷ []) × (one.tells ≡ told 7 1 ∷ told 8 2 ∷ [])
+    × Comes all ended (int (pos 1) ∷ int (pos 2) ∷ Log false ∷ Log true ∷ int (pos 0) ∷ []) × (all.tells ≡ told 7 1 ∷ told 7 2 ∷ [])
+    × Comes none ended (int (pos 1) ∷ int (pos 2) ∷ Log true ∷ Log true ∷ int (pos 0) ∷ []) × (none.tells ≡ told 8 1 ∷ told 8 2 ∷ [])
+
+-- where it tells the end of the file, as WAIT does for all of the unit, PENDING= is false, and nothing else is answered
+abbrev pub ToldBeforeAnswers : Type 0
+ToldBeforeAnswers = let one = asked (Some (pos 1)) true (file (codes "R") []) in let none = asked (Some (pos 1)) false (file (codes "R") []) in
+    Comes one ended (Undefined ∷ Undefined ∷ Log false ∷ Undefined ∷ int (negsuc 0) ∷ []) × (one.tells ≡ at_end 7 1 ∷ at_end 7 2 ∷ [])
+    × Comes none (error_stop 8 (negsuc 0)) (Undefined ∷ Undefined ∷ Log true ∷ Log true ∷ int (pos 0) ∷ []) × (none.tells ≡ at_end 8 1 ∷ at_end 8 2 ∷ [])
 
 -- ---- on an internal file
 

@@ -1,5 +1,5 @@
 -- The answers of INQUIRE (ISO/IEC 1539-1:2004, 9.9.1).
-use Rattle.std.specs.Prelude.{ℕ, ℤ, pos, negsuc, ◌+◌, not, codes, Bool, true, false, List, ◌++◌, map, Option, Some, None, is_some, if◌then◌else◌, take, replicate}
+use Rattle.std.specs.Prelude.{ℕ, ℤ, pos, negsuc, ◌+◌, not, codes, Bool, true, false, List, ◌++◌, map, filter, Option, Some, None, is_some, if◌then◌else◌, take, replicate}
 use Rattle.std.specs.Option.{option_map_or}
 use Rattle.fj_value.specs.declared.kind.Kind.{Kind}
 use Rattle.fj_value.specs.declared.kind.Kind.TheVariants.{Chars}
@@ -123,6 +123,14 @@ value_for kind (truth b) = Log b
 value_for kind (number n) = number_for kind n
 value_for kind (word cs) = fitted kind cs
 value_for kind nothing = Undefined
+
+abbrev pub asks_pending : Question → Bool
+asks_pending question.Pending = true
+asks_pending _ = false
+
+-- PENDING= where no transfer that is asked about is pending, and no other answer
+abbrev pub none_pending : List Wanted → List Cell
+none_pending asked = map (λ (w : Wanted). record { place = w.place; kind = w.kind; value = Log false }) (filter (λ w. asks_pending w.what) asked)
 
 -- one cell for each question, in order
 abbrev pub inquired : About → List Wanted → List Cell

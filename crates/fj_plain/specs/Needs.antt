@@ -89,6 +89,11 @@ abbrev pub unit_of_file : List Unit → List ℕ → Option ℕ
 unit_of_file [] name = None
 unit_of_file (u ∷ us) name = if bytes_eq u.connection.name name then Some u.number else unit_of_file us name
 
+-- the unit that INQUIRE names
+abbrev pub number_of_subject : Subject → Option ℕ
+number_of_subject (subject.Unit u) = number_of u
+number_of_subject (subject.File name) = None
+
 -- the unit that INQUIRE asks about, or that the file is connected to
 abbrev pub unit_about : (List ℕ → Option ℕ) → Subject → Option ℕ
 unit_about unit_named (subject.Unit u) = number_of u
@@ -112,7 +117,7 @@ need_by variables vars unit_named (statement.CloseUnit u keep iostat) = need_of 
 need_by variables vars unit_named (statement.WaitFor u id iostat) =
     record (need_of (unit_places u ++ given_places variables id) (if_given iostat)) { unit = number_of u; id = number_given vars id }
 need_by variables vars unit_named (statement.Move how u iostat) = need_of (unit_places u) (if_given iostat)
-need_by variables vars unit_named (statement.Inquire about asked id iostat) = inquiry_need variables vars (unit_about unit_named about) (subject_places about) asked id iostat
+need_by variables vars unit_named (statement.Inquire about asked id iostat _) = inquiry_need variables vars (unit_about unit_named about) (subject_places about) asked id iostat
 need_by variables vars unit_named (statement.Transfer t) = transfer_need variables t
 need_by variables vars unit_named statement.End = no_need
 

@@ -33,7 +33,7 @@ use Rattle.fj_plain.specs.Needs.{number_of, need, holders, given_number, unit_as
 use Rattle.fj_plain.specs.Telling.{waited, condition_of, after_tells}
 use Rattle.fj_plain.specs.Transfers.{with_number, reads_or_writes, transfers_nothing}
 use Rattle.fj_plain.specs.Connecting.{opens_unit, closes, closes_anyway, moves}
-use Rattle.fj_plain.specs.Inquiring.{About, inquired}
+use Rattle.fj_plain.specs.Inquiring.{About, inquired, none_pending}
 use Rattle.fj_plain.specs.State.{State, Files, Unit, Entry, Tell, Output, found, all_closed, start}
 
 -- ---- assignment (7.4.1.3): characters are cut, or filled up with blanks
@@ -104,12 +104,13 @@ own control variables s (statement.OpenUnit u spec iostat) = if_numbered s (numb
 own control variables s (statement.CloseUnit u keep iostat) = closes s keep (unit_at s (number_of u))
 own control variables s (statement.WaitFor u id iostat) = (s, Fine)
 own control variables s (statement.Move how u iostat) = moves s how (unit_at s (number_of u))
-own control variables s (statement.Inquire subject asked id iostat) = inquires variables s (unit_asked s subject) (file_asked subject) asked id
+own control variables s (statement.Inquire subject asked id iostat _) = inquires variables s (unit_asked s subject) (file_asked subject) asked id
 own control variables s (statement.Transfer t) = reads_or_writes control variables s t
 own control variables s statement.End = (all_closed s, Fine)
 
 abbrev pub instead : List Variable → State → Statement → State
 instead variables s (statement.CloseUnit u keep iostat) = closes_anyway s keep (unit_at s (number_of u))
+instead variables s (statement.Inquire about asked id iostat _) = record s { vars = given_back variables (none_pending asked) s.vars }
 instead variables s (statement.Transfer t) = transfers_nothing variables s t
 instead variables s statement.End = all_closed s
 instead variables s _ = s
@@ -132,7 +133,7 @@ iostat_of (statement.OpenUnit u spec iostat) = iostat
 iostat_of (statement.CloseUnit u keep iostat) = iostat
 iostat_of (statement.WaitFor u id iostat) = iostat
 iostat_of (statement.Move how u iostat) = iostat
-iostat_of (statement.Inquire subject asked id iostat) = iostat
+iostat_of (statement.Inquire subject asked id iostat _) = iostat
 iostat_of (statement.Transfer t) = t.iostat
 iostat_of statement.End = None
 

@@ -1,5 +1,5 @@
 -- Waits: which transfers a statement waits for and tells (ISO/IEC 1539-1:2004, 9.6), and what that does.
-use Rattle.std.specs.Prelude.{ℕ, ℤ, pos, ◌==◌, ◌&&◌, ◌++◌, not, unwrap_or, Bool, false, List, [], ◌∷◌, map, filter, Option, Some, None, if◌then◌else◌}
+use Rattle.std.specs.Prelude.{ℕ, ℤ, pos, ◌==◌, ◌&&◌, ◌++◌, not, unwrap_or, Bool, true, false, List, [], ◌∷◌, map, filter, Option, Some, None, if◌then◌else◌}
 use Rattle.std.specs.List.{list_any}
 use Rattle.std.specs.Ordering.{int_eq}
 use Rattle.fj_value.specs.declared.condition.Condition.{Condition}
@@ -13,7 +13,7 @@ use Rattle.fj_statement.specs.declared.statement.Statement.{Statement}
 use Rattle.fj_statement.specs.declared.statement.Statement.TheVariants as statement
 use Rattle.fj_store.specs.Variables.{Variables, with_value}
 use Rattle.fj_plain.specs.Items.{given_back, kind_of, number_for}
-use Rattle.fj_plain.specs.Needs.{number_of, number_given}
+use Rattle.fj_plain.specs.Needs.{number_of, number_given, number_of_subject}
 use Rattle.fj_plain.specs.State.{State, Unit, Entry, Tell, halts}
 
 -- the pending transfers of a unit
@@ -43,6 +43,11 @@ abbrev pub waited_by : List Entry → Option ℕ → Option ℤ → List Entry
 waited_by book number None = of_unit book number
 waited_by book number (Some id) = if halts (condition_of (of_id book number id)) then of_unit book number else of_id book number id
 
+-- INQUIRE with PENDING= waits as WAIT does where the transfers that it asks about are known to be done
+abbrev pub if_done : Option Bool → List Entry → List Entry
+if_done (Some true) es = es
+if_done _ es = []
+
 abbrev pub is_asynchronous : Transfer → Bool
 is_asynchronous t = unwrap_or t.asynchronous false
 
@@ -53,7 +58,7 @@ waited_in book vars (statement.OpenUnit u spec iostat) = of_unit book (number_of
 waited_in book vars (statement.CloseUnit u keep iostat) = of_unit book (number_of u)
 waited_in book vars (statement.WaitFor u id iostat) = waited_by book (number_of u) (number_given vars id)
 waited_in book vars (statement.Move how u iostat) = of_unit book (number_of u)
-waited_in book vars (statement.Inquire about asked id iostat) = []
+waited_in book vars (statement.Inquire about asked id iostat done) = if_done done (waited_by book (number_of_subject about) (number_given vars id))
 waited_in book vars (statement.Transfer t) = if is_asynchronous t then [] else of_unit book (number_of t.unit)
 waited_in book vars statement.End = book
 

@@ -1,5 +1,5 @@
 // Worked cases of the order in which a statement goes. Other decks with their answers are in fj_cases.
-ghost use Rattle.fj_plain.specs.Cases.{SkippedTellTheirCause, EndOfRecordHaltsNothing, NothingIsRead, RefusedReadsNothing, TestsAreInOrder, TellsComeBeforeTests, ProhibitionsComeFirst, DefinitionsComeFirst, OpenTestsAreInOrder, CloseThatErrs, WrittenAndReadInside, ElementsAreLeft};
+ghost use Rattle.fj_plain.specs.Cases.{SkippedTellTheirCause, EndOfRecordHaltsNothing, NothingIsRead, RefusedReadsNothing, TestsAreInOrder, TellsComeBeforeTests, ProhibitionsComeFirst, DefinitionsComeFirst, OpenTestsAreInOrder, CloseThatErrs, DoneAreTold, ToldBeforeAnswers, WrittenAndReadInside, ElementsAreLeft};
 
 /// A transfer behind an end of file is skipped and tells its cause, and a wait for it waits for all of the unit.
 pub fn skipped_tell_their_cause()
@@ -49,6 +49,16 @@ pub fn open_tests_are_in_order()
 /// A CLOSE that is in error leaves its unit connected; a unit that is not connected is closed, and not moved.
 pub fn close_that_errs()
     ensures { CloseThatErrs }
+{}
+
+/// INQUIRE waits for a transfer that is done, or for all of the unit, and tells it.
+pub fn done_are_told()
+    ensures { DoneAreTold }
+{}
+
+/// Where INQUIRE tells the end of the file PENDING= is false, and nothing else is answered.
+pub fn told_before_answers()
+    ensures { ToldBeforeAnswers }
 {}
 
 /// A WRITE on an internal file fills its element up with blanks, and a READ takes its value from there.

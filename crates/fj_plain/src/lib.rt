@@ -12,9 +12,10 @@ mod unit_laws;
 mod variable_laws;
 
 pub use cases::{
-    close_that_errs, definitions_come_first, elements_are_left, end_of_record_halts_nothing,
-    nothing_is_read, open_tests_are_in_order, prohibitions_come_first, refused_reads_nothing,
-    skipped_tell_their_cause, tells_come_before_tests, tests_are_in_order, written_and_read_inside,
+    close_that_errs, definitions_come_first, done_are_told, elements_are_left,
+    end_of_record_halts_nothing, nothing_is_read, open_tests_are_in_order, prohibitions_come_first,
+    refused_reads_nothing, skipped_tell_their_cause, tells_come_before_tests, tests_are_in_order,
+    told_before_answers, written_and_read_inside,
 };
 pub use cut_laws::{cut_is_before, execution_goes_on};
 pub use halt_laws::{

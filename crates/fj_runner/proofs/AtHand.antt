@@ -64,8 +64,8 @@ control_with n (statement.OpenUnit u spec iostat) = refl
 control_with n (statement.CloseUnit u keep iostat) = refl
 control_with n (statement.WaitFor u id iostat) = refl
 control_with n (statement.Move how u iostat) = refl
-control_with n (statement.Inquire (subject.Unit u) asked id iostat) = refl
-control_with n (statement.Inquire (subject.File name) asked id iostat) = refl
+control_with n (statement.Inquire (subject.Unit u) asked id iostat _) = refl
+control_with n (statement.Inquire (subject.File name) asked id iostat _) = refl
 control_with n (statement.Transfer t) = refl
 control_with n statement.End = refl
 
@@ -75,8 +75,8 @@ close_with n (statement.OpenUnit u spec iostat) = refl
 close_with n (statement.CloseUnit u keep iostat) = refl
 close_with n (statement.WaitFor u id iostat) = refl
 close_with n (statement.Move how u iostat) = refl
-close_with n (statement.Inquire (subject.Unit u) asked id iostat) = refl
-close_with n (statement.Inquire (subject.File name) asked id iostat) = refl
+close_with n (statement.Inquire (subject.Unit u) asked id iostat _) = refl
+close_with n (statement.Inquire (subject.File name) asked id iostat _) = refl
 close_with n (statement.Transfer t) = refl
 close_with n statement.End = refl
 
@@ -86,8 +86,8 @@ calls_with n (statement.OpenUnit u spec iostat) = refl
 calls_with n (statement.CloseUnit u keep iostat) = refl
 calls_with n (statement.WaitFor u id iostat) = refl
 calls_with n (statement.Move how u iostat) = refl
-calls_with n (statement.Inquire (subject.Unit u) asked id iostat) = refl
-calls_with n (statement.Inquire (subject.File name) asked id iostat) = refl
+calls_with n (statement.Inquire (subject.Unit u) asked id iostat _) = refl
+calls_with n (statement.Inquire (subject.File name) asked id iostat _) = refl
 calls_with n (statement.Transfer t) = refl
 calls_with n statement.End = refl
 
@@ -118,8 +118,8 @@ sound_with vs n (statement.OpenUnit u spec iostat) s = (is_unit_with vs n u s.0,
 sound_with vs n (statement.CloseUnit u keep iostat) s = (is_unit_with vs n u s.0, s.1)
 sound_with vs n (statement.WaitFor u id iostat) s = (is_unit_with vs n u s.0, s.1, s.2)
 sound_with vs n (statement.Move how u iostat) s = (is_unit_with vs n u s.0, s.1)
-sound_with vs n (statement.Inquire (subject.Unit u) asked id iostat) s = record { subject_is = is_unit_with vs n u s.subject_is; questions = s.questions; id_is = s.id_is; iostat_is = s.iostat_is }
-sound_with vs n (statement.Inquire (subject.File name) asked id iostat) s = s
+sound_with vs n (statement.Inquire (subject.Unit u) asked id iostat _) s = record { subject_is = is_unit_with vs n u s.subject_is; questions = s.questions; id_is = s.id_is; iostat_is = s.iostat_is }
+sound_with vs n (statement.Inquire (subject.File name) asked id iostat _) s = s
 sound_with vs n (statement.Transfer t) s = record {
   unit_is = is_unit_with vs n t.unit s.unit_is;
   file_is = subst (λ o. IfSome o (IsFile vs)) (sym (internal_with n t.unit)) s.file_is;
@@ -168,8 +168,8 @@ with_held (statement.OpenUnit u spec iostat) = ap (λ x. statement.OpenUnit x sp
 with_held (statement.CloseUnit u keep iostat) = ap (λ x. statement.CloseUnit x keep iostat) (unit_back u)
 with_held (statement.WaitFor u id iostat) = ap (λ x. statement.WaitFor x id iostat) (unit_back u)
 with_held (statement.Move how u iostat) = ap (λ x. statement.Move how x iostat) (unit_back u)
-with_held (statement.Inquire (subject.Unit u) asked id iostat) = ap (λ x. statement.Inquire (subject.Unit x) asked id iostat) (unit_back u)
-with_held (statement.Inquire (subject.File name) asked id iostat) = refl
+with_held (statement.Inquire (subject.Unit u) asked id iostat done) = ap (λ x. statement.Inquire (subject.Unit x) asked id iostat done) (unit_back u)
+with_held (statement.Inquire (subject.File name) asked id iostat _) = refl
 with_held (statement.Transfer t) = ap (λ x. statement.Transfer (record t { unit = x })) (unit_back t.unit)
 with_held statement.End = refl
 

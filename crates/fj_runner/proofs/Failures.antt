@@ -44,7 +44,7 @@ closing_calls (statement.OpenUnit u spec iostat) e = e
 closing_calls (statement.CloseUnit u keep iostat) e = e
 closing_calls (statement.WaitFor u id iostat) e = e
 closing_calls (statement.Move how u iostat) e = e
-closing_calls (statement.Inquire about asked id iostat) e = cc
+closing_calls (statement.Inquire about asked id iostat _) e = cc
 closing_calls (statement.Transfer t) e = e
 closing_calls statement.End e = e
 

@@ -50,7 +50,7 @@ opens_file (statement.Assign to from) us name opens = absurd opens
 opens_file (statement.CloseUnit u keep iostat) us name opens = absurd opens
 opens_file (statement.WaitFor u id iostat) us name opens = absurd opens
 opens_file (statement.Move how u iostat) us name opens = absurd opens
-opens_file (statement.Inquire about asked id iostat) us name opens = absurd opens
+opens_file (statement.Inquire about asked id iostat _) us name opens = absurd opens
 opens_file (statement.Transfer t) us name opens = absurd opens
 opens_file statement.End us name opens = absurd opens
 
@@ -148,7 +148,7 @@ free_prop (after.Connects number) (statement.Assign to from) us = hlevel props
 free_prop (after.Connects number) (statement.CloseUnit u keep iostat) us = hlevel props
 free_prop (after.Connects number) (statement.WaitFor u id iostat) us = hlevel props
 free_prop (after.Connects number) (statement.Move how u iostat) us = hlevel props
-free_prop (after.Connects number) (statement.Inquire about asked id iostat) us = hlevel props
+free_prop (after.Connects number) (statement.Inquire about asked id iostat _) us = hlevel props
 free_prop (after.Connects number) (statement.Transfer t) us = hlevel props
 free_prop (after.Connects number) statement.End us = hlevel props
 

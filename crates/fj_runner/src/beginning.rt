@@ -60,6 +60,7 @@ fn unit_asked(units: &Units, statement: &Statement) -> Option<u32>
             asked: _,
             id: _,
             iostat: _,
+            done: _,
         } => units.named(name),
         _ => None,
     }

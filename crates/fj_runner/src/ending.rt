@@ -48,6 +48,7 @@ pub(crate) fn iostat_of(statement: &Statement) -> Option<Place>
             asked: _,
             id: _,
             iostat,
+            done: _,
         } => *iostat,
         Statement::Transfer(transfer) => transfer.iostat,
     }

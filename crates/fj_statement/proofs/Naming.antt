@@ -59,7 +59,7 @@ places_there vs (statement.OpenUnit u spec iostat) is = All-append (IsSomePlace 
 places_there vs (statement.CloseUnit u keep iostat) is = All-append (IsSomePlace vs) (unit_places u) (if_given iostat) (unit_there vs u is.0) (given_place vs iostat is.1)
 places_there vs (statement.WaitFor u id iostat) is = All-append (IsSomePlace vs) (unit_places u ++ place_given id) (if_given iostat) (All-append (IsSomePlace vs) (unit_places u) (place_given id) (unit_there vs u is.0) (given_operand vs id is.1)) (given_place vs iostat is.2)
 places_there vs (statement.Move how u iostat) is = All-append (IsSomePlace vs) (unit_places u) (if_given iostat) (unit_there vs u is.0) (given_place vs iostat is.1)
-places_there vs (statement.Inquire about asked id iostat) is =
+places_there vs (statement.Inquire about asked id iostat _) is =
     let answers = map (λ (w : Wanted). w.place) asked in
     All-append (IsSomePlace vs) (subject_places about ++ answers ++ place_given id) (if_given iostat)
     (All-append (IsSomePlace vs) (subject_places about ++ answers) (place_given id)

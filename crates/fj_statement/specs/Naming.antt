@@ -49,7 +49,7 @@ named_places (statement.OpenUnit u spec iostat) = unit_places u ++ if_given iost
 named_places (statement.CloseUnit u keep iostat) = unit_places u ++ if_given iostat
 named_places (statement.WaitFor u id iostat) = unit_places u ++ place_given id ++ if_given iostat
 named_places (statement.Move how u iostat) = unit_places u ++ if_given iostat
-named_places (statement.Inquire about asked id iostat) = subject_places about ++ map (λ (w : Wanted). w.place) asked ++ place_given id ++ if_given iostat
+named_places (statement.Inquire about asked id iostat _) = subject_places about ++ map (λ (w : Wanted). w.place) asked ++ place_given id ++ if_given iostat
 named_places (statement.Transfer t) = unit_places t.unit ++ transfer_places t
 named_places statement.End = []
 

@@ -257,7 +257,7 @@ IsSoundStatement vs (statement.OpenUnit u spec iostat) = IsUnit vs u × IfSome i
 IsSoundStatement vs (statement.CloseUnit u keep iostat) = IsUnit vs u × IfSome iostat (IsIntegerPlace vs)
 IsSoundStatement vs (statement.WaitFor u id iostat) = IsUnit vs u × IfSome id (IsIntegerOperand vs) × IfSome iostat (IsIntegerPlace vs)
 IsSoundStatement vs (statement.Move how u iostat) = IsUnit vs u × IfSome iostat (IsIntegerPlace vs)
-IsSoundStatement vs (statement.Inquire about asked id iostat) = IsInquiry vs about asked id iostat
+IsSoundStatement vs (statement.Inquire about asked id iostat _) = IsInquiry vs about asked id iostat
 IsSoundStatement vs (statement.Transfer t) = IsTransfer vs t
 IsSoundStatement vs statement.End = Unit {0}
 

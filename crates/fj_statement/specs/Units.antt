@@ -90,8 +90,8 @@ unit_of (statement.OpenUnit u spec iostat) = Some u
 unit_of (statement.CloseUnit u keep iostat) = Some u
 unit_of (statement.WaitFor u id iostat) = Some u
 unit_of (statement.Move how u iostat) = Some u
-unit_of (statement.Inquire (subject.Unit u) asked id iostat) = Some u
-unit_of (statement.Inquire (subject.File name) asked id iostat) = None
+unit_of (statement.Inquire (subject.Unit u) asked id iostat _) = Some u
+unit_of (statement.Inquire (subject.File name) asked id iostat _) = None
 unit_of (statement.Transfer t) = Some t.unit
 unit_of statement.End = None
 
@@ -102,10 +102,19 @@ with_number n (statement.OpenUnit u spec iostat) = statement.OpenUnit (numbered 
 with_number n (statement.CloseUnit u keep iostat) = statement.CloseUnit (numbered n u) keep iostat
 with_number n (statement.WaitFor u id iostat) = statement.WaitFor (numbered n u) id iostat
 with_number n (statement.Move how u iostat) = statement.Move how (numbered n u) iostat
-with_number n (statement.Inquire (subject.Unit u) asked id iostat) = statement.Inquire (subject.Unit (numbered n u)) asked id iostat
-with_number n (statement.Inquire (subject.File name) asked id iostat) = statement.Inquire (subject.File name) asked id iostat
+with_number n (statement.Inquire (subject.Unit u) asked id iostat done) = statement.Inquire (subject.Unit (numbered n u)) asked id iostat done
+with_number n (statement.Inquire (subject.File name) asked id iostat done) = statement.Inquire (subject.File name) asked id iostat done
 with_number n (statement.Transfer t) = statement.Transfer (record t { unit = numbered n t.unit })
 with_number n statement.End = statement.End
+
+-- INQUIRE to which it is known whether the transfers that PENDING= asks about, of the unit of that number, are done: by FILE= it asks about that unit
+abbrev pub asks_unit : ℕ → Subject → Subject
+asks_unit number (subject.Unit u) = subject.Unit u
+asks_unit number (subject.File name) = subject.Unit (unit.Number number)
+
+abbrev pub looked : ℕ → Bool → Statement → Statement
+looked number is_done (statement.Inquire about asked id iostat _) = statement.Inquire (asks_unit number about) asked id iostat (Some is_done)
+looked number is_done st = st
 
 -- the number that stands in it; 0 where its unit is not of a place
 abbrev pub held_number : UnitRef → ℕ

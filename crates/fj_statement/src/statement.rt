@@ -1,6 +1,6 @@
 // One statement in terms of places. A variable stands in it by its number, from 0 on.
 ghost use Rattle.std.specs.Prelude.{◌≡◌};
-ghost use Rattle.fj_statement.specs.Units.{number_held, unit_of, with_number};
+ghost use Rattle.fj_statement.specs.Units.{looked, number_held, unit_of, with_number};
 
 use crate::unit::{Subject, UnitRef};
 use fj_format::Format;
@@ -101,6 +101,8 @@ pub enum Statement {
         /// A literal or a place.
         id: Option<Operand>,
         iostat: Option<Place>,
+        /// Whether the transfers that PENDING= asks about are done, where that was looked at: INQUIRE then waits for them. A text leaves it None.
+        done: Option<bool>,
     },
     Transfer(Transfer),
     End,
@@ -138,6 +140,7 @@ impl Statement {
                 asked: _,
                 id: _,
                 iostat: _,
+                done: _,
             } => match about {
                 Subject::Unit(unit) => Some(*unit),
                 Subject::File(_) => None,
@@ -178,6 +181,7 @@ impl Statement {
                 asked: _,
                 id: _,
                 iostat: _,
+                done: _,
             } => {
                 if let Subject::Unit(unit) = about {
                     *unit = unit.numbered(code);
@@ -185,6 +189,25 @@ impl Statement {
             }
             Statement::Transfer(transfer) => transfer.unit = transfer.unit.numbered(code),
             Statement::End => {}
+        }
+    }
+
+    /// INQUIRE gets to know whether the transfers that PENDING= asks about are done, which are of the unit of that number.
+    pub fn put_done(&mut self, code: u32, is_done: bool)
+        ensures { self.new ≡ looked code is_done self.old }
+    {
+        if let Statement::Inquire {
+            about,
+            asked: _,
+            id: _,
+            iostat: _,
+            done,
+        } = self
+        {
+            if let Subject::File(_) = about {
+                *about = Subject::Unit(UnitRef::Number(code));
+            }
+            *done = Some(is_done);
         }
     }
 

@@ -159,7 +159,7 @@ own_keeps control variables line core (statement.OpenUnit u spec iostat) h = ope
 own_keeps control variables line core (statement.CloseUnit u keep iostat) h = closes_keeps core keep (number_of u) h
 own_keeps control variables line core (statement.WaitFor u id iostat) h = (refl, refl, h)
 own_keeps control variables line core (statement.Move how u iostat) h = moves_keeps core how (unit_at core (number_of u)) h (λ v e. unit_housed core (number_of u) v h e)
-own_keeps control variables line core (statement.Inquire subject asked id iostat) h =
+own_keeps control variables line core (statement.Inquire subject asked id iostat done) h =
     let number = unit_about (unit_named core.units) subject in
     inquires_keeps variables core number (file_asked subject) asked (number_given core.vars id) (unit_at core number) h (λ v e. unit_housed core number v h e)
 own_keeps control variables line core (statement.Transfer t) h = transfer_keeps control variables line core t (moved_in variables core.vars t) t.unit h

@@ -111,7 +111,7 @@ own_fair k control variables line core (statement.OpenUnit u spec iostat) h l = 
 own_fair k control variables line core (statement.CloseUnit u keep iostat) h l = closes_fair (suc k) core keep (unit_at core (number_of u)) h
 own_fair k control variables line core (statement.WaitFor u id iostat) h l = h
 own_fair k control variables line core (statement.Move how u iostat) h l = moves_fair (suc k) core how (unit_at core (number_of u)) h
-own_fair k control variables line core (statement.Inquire subject asked id iostat) h l =
+own_fair k control variables line core (statement.Inquire subject asked id iostat done) h l =
     let number = unit_about (unit_named core.units) subject in
     inquires_fair (suc k) variables core number (file_asked subject) asked (number_given core.vars id) (unit_at core number) h
 own_fair k control variables line core (statement.Transfer t) h l = transfer_fair k control variables line core t (moved_in variables core.vars t) t.unit h

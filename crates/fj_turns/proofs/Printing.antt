@@ -158,8 +158,8 @@ alone_or_silent (statement.OpenUnit u spec iostat) = inr (doing_silent (statemen
 alone_or_silent (statement.CloseUnit u keep iostat) = inr (doing_silent (statement.CloseUnit u keep iostat) (λ control variables line core. closes_silent core keep (unit_at core (number_of u))))
 alone_or_silent (statement.WaitFor u id iostat) = inr (doing_silent (statement.WaitFor u id iostat) (λ control variables line core. refl))
 alone_or_silent (statement.Move how u iostat) = inr (doing_silent (statement.Move how u iostat) (λ control variables line core. moves_silent core how (unit_at core (number_of u))))
-alone_or_silent (statement.Inquire subject asked id iostat) =
-    inr (doing_silent (statement.Inquire subject asked id iostat) (λ control variables line core.
+alone_or_silent (statement.Inquire subject asked id iostat done) =
+    inr (doing_silent (statement.Inquire subject asked id iostat done) (λ control variables line core.
     let number = unit_about (unit_named core.units) subject in inquires_silent variables core number (file_asked subject) asked (number_given core.vars id) (unit_at core number)))
 alone_or_silent (statement.Transfer t) = transfer_silent t t.unit refl
 alone_or_silent statement.End = inr (doing_silent statement.End (λ control variables line core. all_silent core.output core.units core Fine refl))

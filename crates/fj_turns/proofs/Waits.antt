@@ -8,7 +8,7 @@ use Rattle.fj_value.specs.declared.condition.Condition.TheVariants.{Fine, EndOfF
 use Rattle.fj_statement.specs.declared.statement.Statement.{Statement}
 use Rattle.fj_statement.specs.declared.statement.Statement.TheVariants as statement
 use Rattle.fj_store.specs.Variables.{Variables}
-use Rattle.fj_plain.specs.Needs.{number_of, number_given}
+use Rattle.fj_plain.specs.Needs.{number_of, number_given, number_of_subject}
 use Rattle.fj_plain.specs.State.{Entry, halts}
 use Rattle.fj_plain.specs.Telling.{of_unit, of_id, graver, condition_of, waited_by, waited_in, is_asynchronous, tells_id}
 use Rattle.fj_desk.specs.Desks.{Brought, entry_with}
@@ -130,7 +130,9 @@ module _ (g : Held → Entry) (ids : (h : Held) → (g h).id ≡ h.pending.id) (
   waited_same vars (statement.CloseUnit u keep iostat) same = of_unit_same (number_of u) same
   waited_same vars (statement.WaitFor u id iostat) same = waited_by_same (number_of u) (number_given vars id) same
   waited_same vars (statement.Move how u iostat) same = of_unit_same (number_of u) same
-  waited_same vars (statement.Inquire about asked id iostat) same = refl
+  waited_same vars (statement.Inquire about asked id iostat None) same = refl
+  waited_same vars (statement.Inquire about asked id iostat (Some false)) same = refl
+  waited_same vars (statement.Inquire about asked id iostat (Some true)) same = waited_by_same (number_of_subject about) (number_given vars id) same
   waited_same vars (statement.Transfer t) same = by (is_asynchronous t) refl
     where
       by : (b : Bool) → is_asynchronous t ≡ b → (if is_asynchronous t then [] else of_unit (map known hs) (number_of t.unit)) ≡ (if is_asynchronous t then [] else of_unit (map g hs) (number_of t.unit))
@@ -269,7 +271,9 @@ module _ (g : Held → Entry) (ids : (h : Held) → (g h).id ≡ h.pending.id) (
   waited_among vars (statement.CloseUnit u keep iostat) id hs k e = sym (unit_ids (number_of u) id hs) ∙ e
   waited_among vars (statement.WaitFor u which iostat) id hs k e = by_ids (number_of u) (number_given vars which) id hs k e
   waited_among vars (statement.Move how u iostat) id hs k e = sym (unit_ids (number_of u) id hs) ∙ e
-  waited_among vars (statement.Inquire about asked which iostat) id hs k e = e
+  waited_among vars (statement.Inquire about asked which iostat None) id hs k e = e
+  waited_among vars (statement.Inquire about asked which iostat (Some false)) id hs k e = e
+  waited_among vars (statement.Inquire about asked which iostat (Some true)) id hs k e = by_ids (number_of_subject about) (number_given vars which) id hs k e
   waited_among vars (statement.Transfer t) id hs k e = by (is_asynchronous t) e
     where
       by : (b : Bool) → tells_id (if b then [] else of_unit (map known hs) (number_of t.unit)) id ≡ true → tells_id (if b then [] else of_unit (map g hs) (number_of t.unit)) id ≡ true

@@ -101,23 +101,23 @@ returns-in-Inquire-clause-doing g c = λ tells.
     let what : Statement = c.args.lined.now.what in
     let st : Stated = (c.args.lined.now, control_by what) in
     meant g.D.File.FileStore.told g.D.File.FileStore.bytes c.args.variables.now st _ c.inquire.result _ _
-    (ap (λ (id : Option Operand). own (control_by what) c.args.variables.now c.args.lined.now.line core (statement.Inquire c.in-Inquire.about c.in-Inquire.asked id c.in-Inquire.iostat)) c.as_ref.ensures.value
-    ∙ own_is c.args.variables.now c.args.lined.now.line core what (statement.Inquire c.in-Inquire.about c.in-Inquire.asked c.in-Inquire.id c.in-Inquire.iostat) c.in-Inquire.is)
-    (c.inquire.ensures.doing tells st (asks_about what c.in-Inquire.about c.in-Inquire.asked c.in-Inquire.id _ c.in-Inquire.iostat c.in-Inquire.is c.as_ref.ensures.value))
+    (ap (λ (id : Option Operand). own (control_by what) c.args.variables.now c.args.lined.now.line core (statement.Inquire c.in-Inquire.about c.in-Inquire.asked id c.in-Inquire.iostat c.in-Inquire.done)) c.as_ref.ensures.value
+    ∙ own_is c.args.variables.now c.args.lined.now.line core what (statement.Inquire c.in-Inquire.about c.in-Inquire.asked c.in-Inquire.id c.in-Inquire.iostat c.in-Inquire.done) c.in-Inquire.is)
+    (c.inquire.ensures.doing tells st (asks_about what c.in-Inquire.about c.in-Inquire.asked c.in-Inquire.id _ c.in-Inquire.iostat c.in-Inquire.done c.in-Inquire.is c.as_ref.ensures.value))
 
 pub returns-in-Inquire-clause-fault : goal.returns-in-Inquire-clause-fault
 returns-in-Inquire-clause-fault g c = λ tells lost.
     let core : Core = core_of (files_of (g.D.Disk.held c.args.disk.now)) c.args.core.now in
     let what : Statement = c.args.lined.now.what in
     fails_as _ _ c.inquire.new.core (g.D.Disk.held c.inquire.new.disk) (g.D.Disk.refusals c.args.disk.now) (g.D.Disk.refusals c.inquire.new.disk)
-    (ap (λ (id : Option Operand). own (control_by what) c.args.variables.now c.args.lined.now.line core (statement.Inquire c.in-Inquire.about c.in-Inquire.asked id c.in-Inquire.iostat)) c.as_ref.ensures.value
-    ∙ own_is c.args.variables.now c.args.lined.now.line core what (statement.Inquire c.in-Inquire.about c.in-Inquire.asked c.in-Inquire.id c.in-Inquire.iostat) c.in-Inquire.is)
+    (ap (λ (id : Option Operand). own (control_by what) c.args.variables.now c.args.lined.now.line core (statement.Inquire c.in-Inquire.about c.in-Inquire.asked id c.in-Inquire.iostat c.in-Inquire.done)) c.as_ref.ensures.value
+    ∙ own_is c.args.variables.now c.args.lined.now.line core what (statement.Inquire c.in-Inquire.about c.in-Inquire.asked c.in-Inquire.id c.in-Inquire.iostat c.in-Inquire.done) c.in-Inquire.is)
     (c.inquire.ensures.fault tells lost)
 
 pub returns-in-Inquire-clause-front : goal.returns-in-Inquire-clause-front
 returns-in-Inquire-clause-front g c = λ tells.
     inquire_front c.inquire.result (g.W.Sink.taken c.args.out.now) c.args.variables.now c.args.lined.now.line (core_of (files_of (g.D.Disk.held c.args.disk.now)) c.args.core.now) c.args.lined.now.what
-    c.in-Inquire.about c.in-Inquire.asked c.in-Inquire.id c.in-Inquire.iostat c.in-Inquire.is
+    c.in-Inquire.about c.in-Inquire.asked c.in-Inquire.id c.in-Inquire.iostat c.in-Inquire.done c.in-Inquire.is
 
 pub returns-in-Transfer-clause-doing : goal.returns-in-Transfer-clause-doing
 returns-in-Transfer-clause-doing g c = λ tells.

@@ -76,7 +76,7 @@ serve_with-requires-clause-counted g c κs within = λ at l e.
     (fresh_at (bay_meaning g.D.File.FileStore.told g.D.File.FileStore.bytes g.D.File.FileStore.count) c.args.slots.now c.requires.fresh at l e).sound.counted
 
 pub serve_with-requires-clause-sound : goal.serve_with-requires-clause-sound
-serve_with-requires-clause-sound g c κs within = λ at l e s ts is jobs.
+serve_with-requires-clause-sound g c κs within = λ _ at l e s ts is jobs.
     sound_fresh (bay_meaning g.D.File.FileStore.told g.D.File.FileStore.bytes g.D.File.FileStore.count) c.args.slots.now c.requires.fresh at l e s ts is jobs
 
 pub returns-clause-ended : goal.returns-clause-ended
