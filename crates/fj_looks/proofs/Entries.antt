@@ -6,7 +6,7 @@ use Rattle.fj_slot.specs.Sound.{outcome}
 use Rattle.fj_world.specs.declared.ask.Ask.{Ask}
 use Rattle.fj_world.specs.declared.ask.Ask.TheVariants.{Submit, Settle, Finished}
 use Rattle.fj_world.specs.Conduct.{Conduct}
-use Rattle.fj_world.specs.Losing.{given_number, given_reply, given_outcome, answered}
+use Rattle.fj_world.specs.Losing.{given_number, given_reply, given_outcome, answered, HasAsked}
 use Rattle.fj_world.specs.Plain.{Plain, PlainSlot, submitted_to, settled_from, told_from, served, next, after}
 use Rattle.fj_bay.specs.Bay.{Bay}
 use Rattle.fj_bay.specs.Jobs.{Job, Answer}
@@ -79,11 +79,18 @@ module _ {E J A S : Type 0} (m : Meaning E J A Bay Job Answer) (s : Shows S) whe
       let more : n + suc k ≡ suc (n + k) = omega arith in
       ap (λ j. before m s j r qs) more ∙ ap (λ x. answered (over_bays m) (run_conduct s) x.hand x) (runs_join n k r r' qs qs' e)
 
+  pub asked_join : (n k : ℕ) (r r' : Run) (qs qs' : List (PlainSlot Bay Job)) → runs m s n r qs ≡ runs m s 0 r' qs' → HasAsked (over_bays m) (run_conduct s) (suc k) r' qs'
+      → HasAsked (over_bays m) (run_conduct s) (n + suc k) r qs
+  asked_join n k r r' qs qs' e h =
+      let more : n + suc k ≡ suc (n + k) = omega arith in
+      subst (λ j. HasAsked (over_bays m) (run_conduct s) j r qs) (sym more) (λ f. h (sym (ap (λ (x : Plain Bay (run_conduct s)). x.hand) (runs_join n k r r' qs qs' e)) ∙ f))
+
   pub joins_then : (n k : ℕ) (r r1 r2 : Run) (qs qs1 qs2 : List (PlainSlot Bay Job)) → Joins m s n r qs r1 qs1 → Joins m s k r1 qs1 r2 qs2 → Joins m s (n + k) r qs r2 qs2
   joins_then n zero r r1 r2 qs qs1 qs2 g h =
       let none : n + 0 ≡ n = omega arith in
       subst (λ j. Joins m s j r qs r2 qs2) (sym none) (record {
         asks = g.asks ∙ h.asks;
+        has_asked = g.has_asked;
         count = g.count + h.count;
         passed = passes_more g.count h.count (before m s n r qs).0 ∙ ap (option_and_then (passes h.count)) g.passed ∙ h.passed;
         slots = g.slots ∙ h.slots;
@@ -92,6 +99,7 @@ module _ {E J A S : Type 0} (m : Meaning E J A Bay Job Answer) (s : Shows S) whe
       let same : before m s (n + suc k) r qs ≡ before m s (suc k) r1 qs1 = before_join n k r r1 qs qs1 g.asks in
       record {
         asks = runs_join n (suc k) r r1 qs qs1 g.asks ∙ h.asks;
+        has_asked = asked_join n k r r1 qs qs1 g.asks h.has_asked;
         count = h.count;
         passed = ap (λ b. passes h.count b.0) same ∙ h.passed;
         slots = ap (λ b. b.1) same ∙ h.slots;
@@ -147,11 +155,12 @@ module _ {E J A S : Type 0} (m : Meaning E J A Bay Job Answer) (s : Shows S) whe
       by (Some q) e = told q e (outcome (over_bays m) q.start q.jobs q.told) refl
 
   -- the runner at an ask goes on with its answer
-  answer_joins : (r run : Run) (ask : Ask Job) (qs : List (PlainSlot Bay Job)) (mv : Moves ask qs) → asked r ≡ record { ask = ask; run = run } → Joins m s 1 r qs (mv.given_to run) mv.slots
-  answer_joins r run ask qs mv e =
+  answer_joins : (r run : Run) (ask : Ask Job) (qs : List (PlainSlot Bay Job)) (mv : Moves ask qs) → IsAsking ask → asked r ≡ record { ask = ask; run = run } → Joins m s 1 r qs (mv.given_to run) mv.slots
+  answer_joins r run ask qs mv asking e =
       let b : before m s 1 r qs ≡ (mv.given_to run, mv.slots) = ap (λ a. answered (over_bays m) (run_conduct s) a.ask (at asked a qs)) e ∙ mv.answered_is run in
       record {
         asks = ap (λ a. next (over_bays m) (run_conduct s) (at asked a qs)) e ∙ mv.is asked run;
+        has_asked = λ f. asks_none (subst IsAsking (sym (ap (λ (a : Asked). a.ask) e) ∙ f) asking);
         count = 0;
         passed = ap (λ x. Some x.0) b;
         slots = ap (λ x. x.1) b;
@@ -173,7 +182,7 @@ module _ {E J A S : Type 0} (m : Meaning E J A Bay Job Answer) (s : Shows S) (lo
         rest = x.rest;
         further = x.further;
         entries = 0;
-        gone = λ k. record { asks = ap (λ a. at m s asked a qs) (x.asks k); count = (x.passed k).0; passed = (x.passed k).1; slots = refl };
+        gone = λ k. record { asks = ap (λ a. at m s asked a qs) (x.asks k); has_asked = tt; count = (x.passed k).0; passed = (x.passed k).1; slots = refl };
       })
 
   -- both are at the same ask, which is never answered
@@ -221,7 +230,7 @@ module _ {E J A S : Type 0} (m : Meaning E J A Bay Job Answer) (s : Shows S) (lo
                 let on : mv.given_to run ≡ with_rest (g.front ++ k) (mv.given_to (asked_until looks r).run) =
                 mv.rest (x.hand ∷ others ++ k) (asked_until looks r).run ∙ ap (λ l. with_rest (l ++ k) (mv.given_to (asked_until looks r).run)) (sym front_is) in
                 joins_then m s 1 g.entries (with_rest (x.first ∷ x.others ++ others ++ k) r) (mv.given_to run) (with_rest k z.script) qs mv.slots z.slots
-                (answer_joins m s (with_rest (x.first ∷ x.others ++ others ++ k) r) run (asked_until looks r).ask qs mv asks)
+                (answer_joins m s (with_rest (x.first ∷ x.others ++ others ++ k) r) run (asked_until looks r).ask qs mv x.asking asks)
                 (subst (λ y. Joins m s g.entries y mv.slots (with_rest k z.script) z.slots) (sym on) (g.gone k));
           }
 

@@ -5,3 +5,5 @@ pub mod Putting
 pub mod Worlds
 pub mod Meeting
 pub mod Losing
+pub mod Never
+pub mod Going

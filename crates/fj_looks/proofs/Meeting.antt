@@ -43,7 +43,7 @@ passed_leaves st rest r next none is passes_to =
 module _ (looks : Stated → Run → Bool) where
   -- ---- by one ask
 
-  until_stage : (r : Run) (stage : Stage) → r.ending ≡ None → r.stage ≡ stage → asked_until looks r ≡ stage_until looks stage r
+  pub until_stage : (r : Run) (stage : Stage) → r.ending ≡ None → r.stage ≡ stage → asked_until looks r ≡ stage_until looks stage r
   until_stage r stage none at = ap (λ o. if is_some o then record { ask = Finished; run = r } else stage_until looks r.stage r) none ∙ ap (λ z. stage_until looks z r) at
 
   until_started : (st : Stated) (rest : List Stated) (r : Run) (b : Bool) → r.ending ≡ None → r.stage ≡ Start → r.rest ≡ st ∷ rest → looks st r ≡ b
@@ -78,7 +78,7 @@ module _ (looks : Stated → Run → Bool) where
   here : (r : Run) → StandsAtLook looks r → MeetsLook looks r
   here r x = record { at = r; count = 0; passed = refl; stands = x; stops = until_look r x }
 
-  until_over : (k l : List Stated) (r : Run) → goes_until looks k (with_rest l r) ≡ goes_until looks k r
+  pub until_over : (k l : List Stated) (r : Run) → goes_until looks k (with_rest l r) ≡ goes_until looks k r
   until_over [] l r = refl
   until_over (st ∷ k) l r = refl
 

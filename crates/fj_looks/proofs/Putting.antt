@@ -15,7 +15,7 @@ use Rattle.fj_turns.specs.Run.{Run}
 use Rattle.fj_turns.specs.Serving.{over_bays, Shows, run_conduct}
 use Rattle.fj_looks.specs.Looking.{stretch_conduct}
 use Rattle.fj_looks.specs.Stretches.{with_rest, IsOver, runs, before, Joins, Between, StretchesBegin, stretch, as_run, ToLook, IsWhole, MarksGoOn, IsAtNone, EndsAreWhole, AsksFollow}
-use Rattle.fj_looks.proofs.Entries.{runs_join, before_join, joins_then, each}
+use Rattle.fj_looks.proofs.Entries.{runs_join, before_join, asked_join, joins_then, each}
 
 -- with statements left and no ending it is not over
 going : (r : Run) (st : Stated) (behind : List Stated) → r.ending ≡ None → r.rest ≡ st ∷ behind → IsOver r → ⊥
@@ -37,7 +37,7 @@ drop_is [] l = refl
 drop_is (x ∷ front) l = drop_is front l
 
 pub stretches_begin : {E J A S : Type 0} (m : Meaning E J A Bay Job Answer) (s : Shows S) → StretchesBegin m s
-stretches_begin m s first qs0 = record { front = []; whole = refl; entries = 0; gone = λ k. record { asks = refl; count = 0; passed = refl; slots = refl } }
+stretches_begin m s first qs0 = record { front = []; whole = refl; entries = 0; gone = λ k. record { asks = refl; has_asked = tt; count = 0; passed = refl; slots = refl } }
 
 module _ {E J A S : Type 0} (m : Meaning E J A Bay Job Answer) (s : Shows S) (looks : Stated → Run → Bool) where
   pub marks_go_on : MarksGoOn m s looks
@@ -97,14 +97,16 @@ module _ {E J A S : Type 0} (m : Meaning E J A Bay Job Answer) (s : Shows S) (lo
   pub asks_follow : AsksFollow m s looks
   asks_follow first qs0 deck r qs b zero asked =
       let j = joined first qs0 deck r qs b in
-      record { entries = b.entries; count = j.count; passed = j.passed; slots = j.slots; asks = λ over. j.asks ∙ whole_at r qs 0 over }
+      record { entries = b.entries; has_asked = j.has_asked; count = j.count; passed = j.passed; slots = j.slots; asks = λ over. j.asks ∙ whole_at r qs 0 over }
   asks_follow first qs0 deck r qs b (suc n) asked =
       let j = joined first qs0 deck r qs b in
       let x = stretch m s looks n r qs in
+      let whole = whole_at r qs n (λ e. absurd (asked e)) in
       let same : before m s (b.entries + suc n) (with_rest deck first) qs0 ≡ before_ask (over_bays m) (stretch_conduct looks s) (suc n) r qs =
-      before_join m s b.entries n (with_rest deck first) r qs0 qs j.asks ∙ ap (λ y. answered (over_bays m) (run_conduct s) y.hand y) (whole_at r qs n (λ e. absurd (asked e))) ∙ answered_both x.hand x in
+      before_join m s b.entries n (with_rest deck first) r qs0 qs j.asks ∙ ap (λ y. answered (over_bays m) (run_conduct s) y.hand y) whole ∙ answered_both x.hand x in
       record {
         entries = b.entries + suc n;
+        has_asked = asked_join m s b.entries n (with_rest deck first) r qs0 qs j.asks (λ f. asked (sym (ap (λ (y : Plain Bay (run_conduct s)). y.hand) whole) ∙ f));
         count = 0;
         passed = ap (λ y. Some y.0) same;
         slots = ap (λ y. y.1) same;

@@ -1,4 +1,5 @@
 pub mod Looking
+pub mod Inquiring
 pub mod Stretches
 pub mod Meeting
 pub mod Losing

@@ -4,7 +4,7 @@ use Rattle.fj_slot.specs.Serving.{Meaning}
 use Rattle.fj_world.specs.declared.ask.Ask.TheVariants.{Finished}
 use Rattle.fj_world.specs.Conduct.{Idle, IsDueAsk}
 use Rattle.fj_world.specs.Leading.{LeadsTo}
-use Rattle.fj_world.specs.Losing.{SlotsHold, WasLost}
+use Rattle.fj_world.specs.Losing.{SlotsHold, HasAsked, WasLost}
 use Rattle.fj_world.specs.Plain.{PlainSlot}
 use Rattle.fj_world.specs.Rack.{Rack}
 use Rattle.fj_bay.specs.Bay.{Bay}
@@ -12,7 +12,7 @@ use Rattle.fj_bay.specs.Jobs.{Job, Answer}
 use Rattle.fj_plain.specs.Statement.{Stated}
 use Rattle.fj_turns.specs.Passing.{passes}
 use Rattle.fj_turns.specs.Run.{Run}
-use Rattle.fj_turns.specs.Serving.{over_bays, Shows}
+use Rattle.fj_turns.specs.Serving.{over_bays, Shows, run_conduct}
 use Rattle.fj_looks.specs.Looking.{stretch_conduct}
 use Rattle.fj_looks.specs.Stretches.{with_rest, runs, before, Between}
 
@@ -31,7 +31,7 @@ module _ {E J A S : Type 0} (m : Meaning E J A Bay Job Answer) (s : Shows S) whe
     pub at : Run
     pub count : ℕ
     pub passed : passes count (before m s asks (with_rest deck first) qs0).0 ≡ Some at
-    pub stood : ((s.state script ≡ Some at) × (s.due script ≡ Idle))
+    pub stood : (HasAsked (over_bays m) (run_conduct s) asks (with_rest deck first) qs0 × (s.state script ≡ Some at) × (s.due script ≡ Idle))
         ⊎ (let x = runs m s asks (with_rest deck first) qs0 in (x.hand ≢ Finished) × (s.state script ≡ Some x.script) × IsDueAsk (s.due script) x.hand)
     pub slots : SlotsHold (over_bays m) (before m s asks (with_rest deck first) qs0).1 rack
 

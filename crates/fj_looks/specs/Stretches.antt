@@ -44,6 +44,7 @@ module _ {E J A S : Type 0} (m : Meaning E J A Bay Job Answer) (s : Shows S) whe
   -- After so many entries it asks what another run asks over these slots, to which it comes by passing statements.
   pub record Joins (n : ℕ) (r : Run) (qs : List (PlainSlot Bay Job)) (r' : Run) (qs' : List (PlainSlot Bay Job)) : Type 0 where
     pub asks : runs n r qs ≡ runs 0 r' qs'
+    pub has_asked : HasAsked (over_bays m) (run_conduct s) n r qs
     pub count : ℕ
     pub passed : passes count (before n r qs).0 ≡ Some r'
     pub slots : (before n r qs).1 ≡ qs'
@@ -113,6 +114,7 @@ module _ {E J A S : Type 0} (m : Meaning E J A Bay Job Answer) (s : Shows S) (lo
   -- at no look, it is the same.
   pub record Follows (first : Run) (qs0 : List (PlainSlot Bay Job)) (deck : List Stated) (r : Run) (qs : List (PlainSlot Bay Job)) (n : ℕ) : Type 0 where
     pub entries : ℕ
+    pub has_asked : HasAsked (over_bays m) (run_conduct s) entries (with_rest deck first) qs0
     pub count : ℕ
     pub passed : passes count (before m s entries (with_rest deck first) qs0).0 ≡ Some (before_ask (over_bays m) (stretch_conduct looks s) n r qs).0
     pub slots : (before m s entries (with_rest deck first) qs0).1 ≡ (before_ask (over_bays m) (stretch_conduct looks s) n r qs).1

@@ -13,7 +13,7 @@ use Rattle.clap.proofs.WalkLemmas.{first_value-rows}
 use Rattle.fj_value.specs.Digits.{number_in}
 use Rattle.fj_report.specs.declared.form.Form.{Form}
 use Rattle.fj_report.specs.declared.form.Form.TheVariants.{Run, Alone, Check, Gen, Wrong}
-use Rattle.fj_report.specs.Words.{given, has_flag, number_behind, number_up_to, run_command, alone_command, check_command, gen_command, run_with, alone_with, gen_with, run_form, alone_form, check_form, gen_form, form_of}
+use Rattle.fj_report.specs.Words.{given, has_flag, number_behind, number_up_to, run_command, alone_command, check_command, gen_command, poll_command, run_with, alone_with, gen_with, run_form, alone_form, check_form, gen_form, form_of, polled}
 
 left_true : (a b : Bool) → (a && b) ≡ true → a ≡ true
 left_true true b e = refl
@@ -167,6 +167,14 @@ unfolding gen_form
 gen_is words rows seed count text e some_seed some_count flag =
     ap (Gen seed count) flag ∙ ap (λ o. option_map_or (λ count. Gen seed count (has_flag (codes "text") rows)) o Wrong) some_count
     ∙ ap (λ o. option_map_or (with_count rows) o Wrong) some_seed ∙ ap (λ o. option_map_or gen_with o Wrong) e
+
+pub polled_none : (words : List Text) → None ≡ given poll_command words → None ≡ polled words
+unfolding polled
+polled_none words e = ap (option_and_then (number_behind (codes "workers") 64)) e
+
+pub polled_is : (words : List Text) (rows : List Row) (r : Option ℕ) → Some rows ≡ given poll_command words → r ≡ number_behind (codes "workers") 64 rows → r ≡ polled words
+unfolding polled
+polled_is words rows r e is = is ∙ ap (option_and_then (number_behind (codes "workers") 64)) e
 
 -- ---- the name of a command
 

@@ -1,9 +1,10 @@
 -- Pieces that are appended from the left to the right, or all at once.
-use Rattle.std.proofs.Common.{◌≡◌, ℕ, ℤ, List, [], ◌++◌, append_assoc, append-nil, ◌∙◌, ap, refl}
+use Rattle.std.proofs.Common.{◌≡◌, ℕ, ℤ, Bool, List, [], ◌∷◌, ◌++◌, append_assoc, append-nil, ◌∙◌, ap, refl}
 use Rattle.std.specs.Prelude.{codes}
 use Rattle.std.specs.Fmt.{decimal, signed_decimal}
+use Rattle.fj_value.specs.Shown.{letter}
 use Rattle.fj_report.specs.declared.summary.Summary.{Summary}
-use Rattle.fj_report.specs.Lines.{trace_text, summary_text}
+use Rattle.fj_report.specs.Lines.{trace_text, look_text, summary_text}
 
 pub three : (a b c : List ℕ) → a ++ (b ++ (c ++ [])) ≡ a ++ b ++ c
 three a b c = simp (append_assoc, append-nil)
@@ -23,6 +24,13 @@ pub traced : (old line unit tag code : List ℕ) (s : ℕ) (u : ℤ) (t : ℕ) (
 unfolding trace_text
 traced old line unit tag code s u t k a b c d =
     ap (λ xs. old ++ xs) (nine (codes "~ ") line (codes " ") unit (codes " ") tag (codes " ") code (codes "\n") ∙ rw (a, b, c, d) refl)
+
+-- the line of a look from its numbers
+pub looked : (old line unit answer count : List ℕ) (s : ℕ) (u : ℤ) (pending : Bool) (n : ℕ) → line ≡ decimal s → unit ≡ signed_decimal u → answer ≡ letter pending ∷ [] → count ≡ decimal n
+    → old ++ (codes "? " ++ (line ++ (codes " " ++ (unit ++ (codes " " ++ (answer ++ (codes " " ++ (count ++ (codes "\n" ++ []))))))))) ≡ old ++ look_text s u pending n
+unfolding look_text
+looked old line unit answer count s u pending n a b c d =
+    ap (λ xs. old ++ xs) (nine (codes "? ") line (codes " ") unit (codes " ") answer (codes " ") count (codes "\n") ∙ rw (a, b, c, d) refl)
 
 fifteen : (a b c d e f g h i j k l m n o : List ℕ) → a ++ (b ++ (c ++ (d ++ (e ++ (f ++ (g ++ (h ++ (i ++ (j ++ (k ++ (l ++ (m ++ (n ++ (o ++ []))))))))))))))
     ≡ a ++ b ++ c ++ d ++ e ++ f ++ g ++ h ++ i ++ j ++ k ++ l ++ m ++ n ++ o

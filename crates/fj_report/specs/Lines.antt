@@ -1,5 +1,5 @@
 -- The lines of the report.
-use Rattle.std.specs.Prelude.{◌≡◌, ℕ, ℤ, ◌/◌, ◌%◌, ◌==◌, ◌||◌, nat_lt, true, if◌then◌else◌, List, [], ◌∷◌, ◌++◌, length, take, codes, Option, Some}
+use Rattle.std.specs.Prelude.{◌≡◌, ℕ, ℤ, ◌/◌, ◌%◌, ◌==◌, ◌||◌, nat_lt, true, if◌then◌else◌, Bool, List, [], ◌∷◌, ◌++◌, length, take, codes, Option, Some}
 use Rattle.std.specs.List.{flat_map}
 use Rattle.std.specs.Fmt.{decimal, signed_decimal, digit_glyph}
 use Rattle.fj_value.specs.Shown.{letter}
@@ -65,6 +65,10 @@ told_text tell = trace_text tell.stmt tell.unit tell.tag.0 tell.code
 
 abbrev pub trace_lines : List Tell → List ℕ
 trace_lines tells = flat_map told_text tells
+
+-- the line of a look at pending transfers: the line of the statement that looks, the unit, whether some are pending, and how many were done
+unfoldable pub look_text : ℕ → ℤ → Bool → ℕ → List ℕ
+look_text stmt unit pending done = codes "? " ++ decimal stmt ++ codes " " ++ signed_decimal unit ++ codes " " ++ (letter pending ∷ []) ++ codes " " ++ decimal done ++ codes "\n"
 
 -- the line of a deck that was made and carried out to its end
 unfoldable pub summary_text : Summary → List ℕ

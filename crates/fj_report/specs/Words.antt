@@ -40,6 +40,9 @@ check_command = command_named (codes "check")
 abbrev pub gen_command : App
 gen_command = with_rule (with_rule (with_rule (command_named (codes "gen")) (option_named (codes "seed"))) (option_named (codes "count"))) (flag_named (codes "text"))
 
+abbrev pub poll_command : App
+poll_command = with_rule (command_named (codes "poll")) workers_option
+
 -- ---- what a command makes of words
 
 -- a number of one to ten decimal digits that is not above `most`
@@ -93,3 +96,12 @@ form_of (command ∷ words) =
     else if bytes_eq command (codes "check") then check_form words
     else if bytes_eq command (codes "gen") then gen_form words
     else Wrong
+
+-- the workers that the words behind `poll` ask for
+unfoldable pub polled : List Text → Option ℕ
+polled words = option_and_then (number_behind (codes "workers") 64) (given poll_command words)
+
+-- of words for a run in which PENDING= is looked for
+unfoldable pub polled_by : List Text → Option ℕ
+polled_by [] = None
+polled_by (command ∷ words) = if bytes_eq command (codes "poll") then polled words else None

@@ -1,7 +1,7 @@
 // The commands that read the words behind the first.
 ghost use Rattle.std.specs.Prelude.{◌≡◌, IfOk, false};
 ghost use Rattle.clap.specs.Words.{app_of, rule_of};
-ghost use Rattle.fj_report.specs.Words.{command_named, option_named, flag_named, workers_option, run_command, alone_command, check_command, gen_command};
+ghost use Rattle.fj_report.specs.Words.{command_named, option_named, flag_named, workers_option, run_command, alone_command, check_command, gen_command, poll_command};
 
 use clap::{Arg, ArgAction, Command};
 use std::alloc::{AllocError, Global};
@@ -68,4 +68,10 @@ pub fn gen_command<'a>(alloc: Global) -> Result<Command<'a>, AllocError>
         .arg(option_named(alloc, "seed"))?
         .arg(option_named(alloc, "count"))?
         .arg(flag_named(alloc, "text"))
+}
+
+pub fn poll_command<'a>(alloc: Global) -> Result<Command<'a>, AllocError>
+    ensures { IfOk result (λ command. app_of command ≡ poll_command) }
+{
+    command_named(alloc, "poll").arg(workers_option(alloc))
 }

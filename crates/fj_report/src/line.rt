@@ -1,11 +1,11 @@
 // Lines of the report. Want of memory leaves the text as it was.
 ghost use Rattle.std.specs.Prelude.{◌≡◌, ◌++◌, OnOk, OnErr};
-ghost use Rattle.fj_report.specs.Lines.{reason_words, reason_number, rule_text, usage_text, status_text, check_text, trace_text};
+ghost use Rattle.fj_report.specs.Lines.{reason_words, reason_number, rule_text, usage_text, status_text, check_text, trace_text, look_text};
 
 use crate::pieces::push_pieces;
 use crate::status::Status;
 use fj_statement::Reason;
-use fj_value::{Rule, Tag, Text};
+use fj_value::{Rule, Tag, Text, letter_of};
 use itoa::Buffer;
 use std::alloc::AllocError;
 
@@ -189,6 +189,37 @@ pub fn trace_line(
             identifier.format(tag.0).as_bytes(),
             b" ",
             condition.format(code).as_bytes(),
+            b"\n",
+        ],
+    )
+}
+
+/// The line of a look at the pending transfers of a unit: whether some are pending, and how many were done then.
+#[tactic(auto, unfolding(crate::specs::Lines::look_text))]
+pub fn look_line(
+    stmt: u32,
+    unit: i64,
+    pending: bool,
+    done: u64,
+    out: &mut Text,
+) -> Result<(), AllocError>
+    ensures ok { OnOk result (out.new ≡ out.old ++ look_text stmt unit pending done) }
+    ensures err { OnErr result (out.new ≡ out.old) }
+{
+    let mut line = Buffer::new();
+    let mut number = Buffer::new();
+    let mut count = Buffer::new();
+    push_pieces(
+        out,
+        &[
+            b"? ",
+            line.format(stmt).as_bytes(),
+            b" ",
+            number.format(unit).as_bytes(),
+            b" ",
+            letter_of(pending),
+            b" ",
+            count.format(done).as_bytes(),
             b"\n",
         ],
     )
