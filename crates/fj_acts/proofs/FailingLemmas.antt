@@ -247,10 +247,6 @@ without_other : (h : Holdings) (n q : List ℕ) → q ≢ n → map.get (map.rem
 unfolding disk.without
 without_other h n q other = ((steps h n [] true).3 q other).2.0
 
-with_other : (h : Holdings) (n q : List ℕ) → q ≢ n → map.get (map.insert h.files n []) q ≡ map.get h.files q
-unfolding disk.given
-with_other h n q other = ((steps h n [] true).3 q other).1.0
-
 lost_is : {T : Type 0} (lost other : Lost) → (let r : Result T Lost = Err lost in r) ≡ Err other → lost ≡ other
 lost_is lost other e = cc
 
@@ -271,11 +267,10 @@ still_open core number slot name spec modes h left leaves = by leaves.files
     opens : bytes_opened (unwrap_or spec.status Unknown) (map.get h.files name) ≡ Ok [] → connected_next due ≡ Some name
     opens e = ap (λ (r : Result (List ℕ) Condition). connected_next (attaches core number slot (connected_to modes name r))) e
 
-    by : (left.files ≡ h.files) ⊎ ((bytes_opened (unwrap_or spec.status Unknown) (map.get h.files name) ≡ Ok []) × ((left.files ≡ map.remove h.files name) ⊎ (left.files ≡ map.insert h.files name [])))
+    by : (left.files ≡ h.files) ⊎ ((bytes_opened (unwrap_or spec.status Unknown) (map.get h.files name) ≡ Ok []) × (left.files ≡ map.remove h.files name))
         → (q : List ℕ) → connected_next due ≢ Some q → files_of left q ≡ files_of h q
     by (inl same) q other = ap (λ (f : disk.Files). map.get f q) same
-    by (inr (ok, inl gone)) q other = ap (λ (f : disk.Files). map.get f q) gone ∙ without_other h name q (λ same. other (opens ok ∙ ap Some (sym same)))
-    by (inr (ok, inr empty)) q other = ap (λ (f : disk.Files). map.get f q) empty ∙ with_other h name q (λ same. other (opens ok ∙ ap Some (sym same)))
+    by (inr (ok, gone)) q other = ap (λ (f : disk.Files). map.get f q) gone ∙ without_other h name q (λ same. other (opens ok ∙ ap Some (sym same)))
 
 pub fails_open : (core : PlainCore) (number slot : ℕ) (name : List ℕ) (spec : OpenSpec) (modes : Modes) (new : Core) (h left : Holdings) (before now : ℕ)
     → core.files ≡ files_of h → new.units ≡ core.units → Rose before now → LeavesAtHome (unwrap_or spec.status Unknown) h name left

@@ -1,7 +1,7 @@
 //! Counts the records of the file `records` in the current folder, and their characters: what the benchmark of reading times.
 #![tactic(auto)]
 
-use fj_outside::{Buffered, Disk, FileStore, Stop};
+use fj_outside::{Buffered, Disk, FileStore, Stop, WindowRoom};
 use fj_real::RealDisk;
 use fj_seqrec::{RecordRead, read_record};
 use fj_value::Text;
@@ -43,13 +43,11 @@ fn counted<F: FileStore>(file: &mut F, into: &mut Text) -> Result<Count, Stop> {
 fn counted_in<D: Disk>(alloc: Global, disk: &mut D, name: &str) -> Result<Count, Stop>
     requires { D.tells disk.old → ⊥ }
 {
+    let room = WindowRoom::new(alloc)?;
     let Some(file) = disk.take(alloc, name)? else {
         return Err(Stop::Failed);
     };
-    let mut file = match Buffered::new(alloc, file) {
-        Ok(file) => file,
-        Err(back) => return Err(Stop::Memory(back.error)),
-    };
+    let mut file = Buffered::new(room, file);
     let mut into = Text::new(alloc);
     counted(&mut file, &mut into)
 }

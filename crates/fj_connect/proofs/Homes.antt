@@ -1,15 +1,11 @@
 -- What a disk holds after a file came out of it and went back, or was not made.
-use Rattle.std.proofs.Common.{Bool, Err, List, None, Ok, Option, Result, Some, [], ap, arith, inl, inr, length, refl, rules, sym, true, ℕ, ◌<◌, ◌∙◌, ◌≡◌, ◌≤◌, ◌⊎◌}
-use Rattle.std.specs.Result.{result_unwrap_or}
-use Rattle.std.proofs.lemmas.Bool.{cases_lt}
-use Rattle.fj_value.specs.declared.condition.Condition.{Condition}
-use Rattle.fj_modes.specs.declared.specifiers.FileStatus.TheVariants.{Old, New, Scratch, Replace, Unknown}
+use Rattle.std.proofs.Common.{Bool, Err, List, Ok, Some, [], ap, arith, inl, inr, length, rules, true, ℕ, ◌<◌, ◌∙◌, ◌≡◌, ◌≤◌, ◌⊎◌}
 use Rattle.std.specs.Cmp.Lexicographic.{nat_list_cmp_total}
 use Rattle.std.specs.FinMap as map
 use Rattle.std.specs.FinMap.{gets, slice_cmp-IsAntisymmetric, nat_cmp-IsAntisymmetric, same_map}
 use Rattle.fj_modes.specs.declared.specifiers.FileStatus.{FileStatus}
 use Rattle.fj_outside.specs.Holdings.{Holdings, Files, IsFree, out_of, given, without}
-use Rattle.fj_outside.proofs.HoldingLaws.{files_back, files_back_same, in_use_back, hurt_back, files_given, files_without, in_use_without, hurt_without}
+use Rattle.fj_outside.proofs.HoldingLaws.{files_back_same, in_use_back, hurt_back, files_given, files_without, in_use_without, hurt_without}
 use Rattle.fj_value.specs.declared.condition.Condition.TheVariants.{Error}
 use Rattle.fj_modes.specs.Limits.{longest_file}
 use Rattle.fj_connect.specs.Opening.{bytes_opened, kept_bytes}
@@ -24,7 +20,7 @@ restored h h1 h2 name bytes there free out back = record {
 
 pub not_made : (status : FileStatus) (h h1 : Holdings) (name : List ℕ) → bytes_opened status (map.get h.files name) ≡ Ok [] → (h1 ≡ h) ⊎ (h1 ≡ without h name) → LeavesAtHome status h name h1
 not_made status h h1 name made (inl e) = record { files = inl (ap (λ (x : Holdings). x.files) e); in_use = ap (λ (x : Holdings). x.in_use) e; hurt = inl (ap (λ (x : Holdings). x.hurt) e) }
-not_made status h h1 name made (inr e) = record { files = inr (made, inl (files_without h h1 name e)); in_use = in_use_without h h1 name e; hurt = inl (hurt_without h h1 name e) }
+not_made status h h1 name made (inr e) = record { files = inr (made, files_without h h1 name e); in_use = in_use_without h h1 name e; hurt = inl (hurt_without h h1 name e) }
 
 pub too_long : (bytes : List ℕ) → longest_file < length bytes → kept_bytes bytes ≡ Err (Error 27)
 too_long bytes long = grind arith
@@ -42,32 +38,3 @@ gone h h1 h2 name bytes sound back removed = files_without h1 h2 name removed �
 
 pub short_enough : (bytes : List ℕ) → length bytes ≤ longest_file → kept_bytes bytes ≡ Ok bytes
 short_enough bytes short = grind arith
-
-same_bytes : (there bytes : List ℕ) → kept_bytes there ≡ Ok bytes → there ≡ bytes
-same_bytes there bytes is = elim (cases_lt longest_file (length there)) [
-  | inl long ↦ let no : ◌≡◌ {A = Result (List ℕ) Condition} (Err (Error 27)) (Ok bytes) = sym (too_long there long) ∙ is in cc
-  | inr short ↦ ap (λ r. result_unwrap_or r there) (sym (short_enough there short) ∙ is)
-]
-
--- a file that came out is the one that was there, or a new empty one
-came_out : (status : FileStatus) (found : Option (List ℕ)) (bytes : List ℕ) → bytes_opened status found ≡ Ok bytes → (found ≡ Some bytes) ⊎ ((bytes ≡ []) × (bytes_opened status found ≡ Ok []))
-came_out Old None bytes is = cc
-came_out Old (Some there) bytes is = inl (ap Some (same_bytes there bytes is))
-came_out New None bytes is = inr (sym (ap (λ r. result_unwrap_or r []) is), refl)
-came_out New (Some there) bytes is = cc
-came_out Scratch found bytes is = inr (sym (ap (λ r. result_unwrap_or r []) is), refl)
-came_out Replace found bytes is = inr (sym (ap (λ r. result_unwrap_or r []) is), refl)
-came_out Unknown None bytes is = inr (sym (ap (λ r. result_unwrap_or r []) is), refl)
-came_out Unknown (Some there) bytes is = inl (ap Some (same_bytes there bytes is))
-
--- it went back before it was used
-pub went_back : (status : FileStatus) (h h1 h2 : Holdings) (name bytes : List ℕ) → IsFree h name → bytes_opened status (map.get h.files name) ≡ Ok bytes → h1 ≡ out_of h name → h2 ≡ given h1 name bytes true
-    → LeavesAtHome status h name h2
-went_back status h h1 h2 name bytes free opened out back = record {
-  files = elim (came_out status (map.get h.files name) bytes opened) [
-    | inl there ↦ inl (files_back_same h h1 h2 name bytes true there out back)
-    | inr made ↦ inr (made.1, inr (files_back h h1 h2 name bytes true out back ∙ ap (map.insert h.files name) made.0))
-  ];
-  in_use = in_use_back h h1 h2 name bytes true out back free;
-  hurt = inr (hurt_back h h1 h2 name bytes true out back);
-}

@@ -47,10 +47,9 @@ pub record HoldsAsBefore (old : Holdings) (name : List ℕ) (new : Holdings) : T
   pub in_use : new.in_use ≡ old.in_use
   pub hurt : HurtAsBefore old.hurt name new.hurt
 
--- no file is out that was at home; a file that was to be made or emptied may be gone or empty
+-- no file is out that was at home, and none was made; a file that was to be made or emptied may be gone
 pub record LeavesAtHome (status : FileStatus) (old : Holdings) (name : List ℕ) (new : Holdings) : Type 0 where
-  pub files : (new.files ≡ old.files)
-      ⊎ ((bytes_opened status (map.get old.files name) ≡ Ok []) × ((new.files ≡ map.remove old.files name) ⊎ (new.files ≡ map.insert old.files name [])))
+  pub files : (new.files ≡ old.files) ⊎ ((bytes_opened status (map.get old.files name) ≡ Ok []) × (new.files ≡ map.remove old.files name))
   pub in_use : new.in_use ≡ old.in_use
   pub hurt : HurtAsBefore old.hurt name new.hurt
 

@@ -20,25 +20,33 @@ pub struct Buffered<F: FileStore> {
     ghost of_file: { F.tells file → IsWindowOf (F.bytes file) window },
 }
 
-/// A file for which there was no memory for a window.
+/// Room for the window of a file, which can be made before there is the file.
 #[derive(Drop)]
-pub struct Unbuffered<F: FileStore> {
-    pub file: F,
-    pub error: AllocError,
+pub struct WindowRoom {
+    window: WindowBytes,
+    ghost empty: { window.bytes ≡ [] },
+}
+
+impl WindowRoom {
+    /// Room for one window.
+    pub fn new(alloc: Global) -> Result<WindowRoom, AllocError> {
+        Ok(WindowRoom {
+            window: WindowBytes::new(alloc)?,
+        })
+    }
 }
 
 impl<F: FileStore> Buffered<F> {
     ghost use Rattle.fj_outside.specs.Buffered.{file_in, window_in};
 
-    /// A file with an empty window. Want of memory hands the file back.
-    pub fn new(alloc: Global, file: F) -> Result<Buffered<F>, Unbuffered<F>>
-        ensures ok { IfOk result (λ made. file_in made ≡ file) }
-        ensures empty { IfOk result (λ made. (window_in made).bytes ≡ []) }
-        ensures err { IfErr result (λ back. back.file ≡ file) }
+    /// A file with an empty window, in room that was made before. It takes no memory.
+    pub fn new(room: WindowRoom, file: F) -> Buffered<F>
+        ensures file { file_in result ≡ file }
+        ensures empty { (window_in result).bytes ≡ [] }
     {
-        match WindowBytes::new(alloc) {
-            Ok(window) => Ok(Buffered { file, window }),
-            Err(error) => Err(Unbuffered { file, error }),
+        Buffered {
+            file,
+            window: room.window,
         }
     }
 

@@ -23,7 +23,7 @@ mod plans;
 mod table;
 mod window;
 
-pub use buffered::{Buffered, Unbuffered};
+pub use buffered::{Buffered, WindowRoom};
 pub use errors::{Failed, Stop};
 pub use failing_disk::FailingDisk;
 pub use failing_file::FailingFile;

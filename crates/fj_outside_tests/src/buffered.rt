@@ -2,7 +2,7 @@
 ghost use Rattle.std.specs.Prelude.{◌≡◌, ◌≤◌, ◌<◌, length, IsTrue, true, refl};
 ghost use Rattle.fj_outside.specs.Faults.{Rose};
 
-use fj_outside::{Buffered, Failed, FileStore, MemoryFile, Stop};
+use fj_outside::{Buffered, Failed, FileStore, MemoryFile, Stop, WindowRoom};
 use std::alloc::{AllocError, Global};
 use std::test::*;
 
@@ -145,10 +145,7 @@ fn buffered(alloc: Global, bytes: &[u8], fails: u64) -> Result<Buffered<Counting
         fails,
         faults: 0,
     };
-    match Buffered::new(alloc, file) {
-        Ok(file) => Ok(file),
-        Err(back) => Err(back.error),
-    }
+    Ok(Buffered::new(WindowRoom::new(alloc)?, file))
 }
 
 /// Takes only what may go to another thread.

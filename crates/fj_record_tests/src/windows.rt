@@ -1,7 +1,7 @@
 // Records that are read through a window, and what is asked of the file for them.
 ghost use Rattle.std.specs.Prelude.{length, true, refl};
 
-use fj_outside::{Buffered, Failed, FileStore, MemoryFile, Stop};
+use fj_outside::{Buffered, Failed, FileStore, MemoryFile, Stop, WindowRoom};
 use fj_seqrec::{RecordRead, read_record};
 use fj_value::Text;
 use std::alloc::{AllocError, Global};
@@ -111,13 +111,11 @@ fn read_through(file: Buffered<Counting>, into: &mut Text) -> (u64, Result<u32, 
 
 /// The same of that file; nothing where memory is refused.
 fn read_through_window(alloc: Global) -> Option<(u64, Result<u32, Stop>, u64, u64)> {
-    let Ok(file) = written(alloc) else {
+    let (Ok(room), Ok(file)) = (WindowRoom::new(alloc), written(alloc)) else {
         return None;
     };
-    match Buffered::new(alloc, file) {
-        Ok(file) => Some(read_through(file, &mut Text::new(alloc))),
-        Err(_) => None,
-    }
+    let file = Buffered::new(room, file);
+    Some(read_through(file, &mut Text::new(alloc)))
 }
 
 #[test]

@@ -14,7 +14,7 @@ ghost use Rattle.fj_connect.specs.Faults.{has_failed, IfRefused, IfStopped, IsEr
 use crate::connection::Connection;
 use crate::spot::{Spot, Within};
 use fj_modes::{FileName, FileStatus, LONGEST_FILE, Modes, OpenSpec, Start};
-use fj_outside::{Buffered, Disk, FileStore, Stop, Unbuffered};
+use fj_outside::{Buffered, Disk, FileStore, Stop, WindowRoom};
 use fj_value::{Condition, Text};
 use std::alloc::{AllocError, Global};
 
@@ -213,7 +213,7 @@ fn connected<F: FileStore>(
 }
 
 /// Connects to the file of a name, which is free, as a statement and the modes that it settles ask for. Error 5, 6 or 27
-/// leaves what the disk holds; a stop leaves the file of that name at home, or absent or empty where it was to be made.
+/// leaves what the disk holds; a stop leaves the file of that name at home, or absent where it was to be made.
 pub fn open_file<D: Disk>(
     alloc: Global,
     disk: &mut D,
@@ -243,13 +243,9 @@ pub fn open_file<D: Disk>(
     ensures failed { result ≡ Err (OpenFault.Stop Stop.Failed) → Rose (D.count disk.old) (D.count disk.new) }
 {
     let kept = name.try_clone()?;
+    let room = WindowRoom::new(alloc)?;
     let status = spec.status.unwrap_or(FileStatus::Unknown);
     let file = file_opened(alloc, disk, name, status)?;
-    match Buffered::new(alloc, file) {
-        Ok(file) => Ok(connected(alloc, modes, kept, file)),
-        Err(Unbuffered { file, error }) => {
-            disk.give(name.as_str(), file);
-            Err(OpenFault::Stop(Stop::Memory(error)))
-        }
-    }
+    let windowed = Buffered::new(room, file);
+    Ok(connected(alloc, modes, kept, windowed))
 }
