@@ -253,6 +253,14 @@ begun_put at new (Some n) w = begun_with at new n w
 abbrev pub hand_with : Option ℕ → Lined → Stated
 hand_with o l = (record l { what = put_in o l.what }, control_by (put_in o l.what))
 
+-- as it begins
+pub began : (core : Core) (l : Lined) (since : Option ℕ) (r : Run) → r.core ≡ core
+    → begun_for r (hand_with since l) ≡ hand_with (Some (option_map_or (number_due (value_at core.vars) core.new_unit) (unit_of l.what) 0)) l
+began core l since r same =
+    ap (λ (k : Core). begins k.vars k.new_unit (hand_with since l)) same
+    ∙ ap (λ w. (record l { what = w }, control_by (put_in since l.what))) (begun_put (value_at core.vars) core.new_unit since l.what)
+    ∙ ap (λ f. (record l { what = begun (value_at core.vars) core.new_unit l.what }, f)) (control_put since l.what ∙ sym (control_put (Some (option_map_or (number_due (value_at core.vars) core.new_unit) (unit_of l.what) 0)) l.what))
+
 module _ {F : Type 0} (told : F → Bool) (bytes : F → List ℕ) (variables : List Variable) (core : Core) (l : Lined) (since : Option ℕ) (more : List Stated) (r : Run) (same : r.core ≡ core) where
   abbrev due : Option ℕ
   due = Some (option_map_or (number_due (value_at core.vars) core.new_unit) (unit_of l.what) 0)
@@ -263,15 +271,9 @@ module _ {F : Type 0} (told : F → Bool) (bytes : F → List ℕ) (variables : 
   past : (x stage : PlainStage) → Some x ≡ Some stage → hand_at first x r ≡ first → hand_at first stage r ≡ first
   past x stage e h = subst (λ y. hand_at first y r ≡ first) (some_same x stage e) h
 
-  began : hand_at first Start r ≡ hand_with due l
-  began =
-      ap (λ (k : Core). begins k.vars k.new_unit (hand_with since l)) same
-      ∙ ap (λ w. (record l { what = w }, control_by (put_in since l.what))) (begun_put (value_at core.vars) core.new_unit since l.what)
-      ∙ ap (λ f. (record l { what = begun (value_at core.vars) core.new_unit l.what }, f)) (control_put since l.what ∙ sym (control_put (Some (option_map_or (number_due (value_at core.vars) core.new_unit) (unit_of l.what) 0)) l.what))
-
   pub hand_due : (s : Stage F) (stage : PlainStage) → stage_of told bytes variables (hand_with since l ∷ more) core s ≡ Some stage
       → hand_at (hand_with since l) stage r ≡ hand_with (number_by s (Some (option_map_or (number_due (value_at core.vars) core.new_unit) (unit_of l.what) 0)) since) l
-  hand_due stage.Start stage e = subst (λ y. hand_at (hand_with since l) y r ≡ hand_with (Some (option_map_or (number_due (value_at core.vars) core.new_unit) (unit_of l.what) 0)) l) (some_same Start stage e) began
+  hand_due stage.Start stage e = subst (λ y. hand_at (hand_with since l) y r ≡ hand_with (Some (option_map_or (number_due (value_at core.vars) core.new_unit) (unit_of l.what) 0)) l) (some_same Start stage e) (began core l since r same)
   hand_due (stage.Waiting whose from) stage e = past Waiting stage e refl
   hand_due (stage.Resuming slots next condition) stage e = past _ stage e refl
   hand_due (stage.Going next number) stage e = past _ stage e refl

@@ -30,7 +30,7 @@ got [] at x e = cc
 got (y ∷ ys) zero x e = ap (λ o. unwrap_or o y) e
 got (y ∷ ys) (suc n) x e = got ys n x e
 
-all_get : {X : Type 0} (P : X → Type 0) (xs : List X) (at : ℕ) (x : X) → slice_get xs at ≡ Some x → All P xs → P x
+pub all_get : {X : Type 0} (P : X → Type 0) (xs : List X) (at : ℕ) (x : X) → slice_get xs at ≡ Some x → All P xs → P x
 all_get P xs at x e all = subst P (got xs at x e) (All-get_or P xs at x (inside xs at x e) all)
 
 module _ {F : Type 0} {ghosts : Ghosts F} (m : Machine F ghosts) (l : Lined) (item : slice_get m.deck.statements m.at.place ≡ Some l) where

@@ -249,7 +249,7 @@ none_awaited hand s idle = subst (λ h. AwaitsAtHand h s) (sym idle) tt
 
 -- so it may be asked for, where as many asks are left as the deck may still make
 pub may_ask : {F : Type 0} {ghosts : Ghosts F} → (a : Ask (Job F)) (m mid : Machine F ghosts) → m.tally.hand ≡ Idle → OwesAsGiven m.tally.hand m.tally.owed.items m.state.sent.items mid.state.told.items
-    → SentFor a m.state.sent.items mid.state.sent.items → KeepsToSlots a mid.state → HasAsks m → Spent a (jobs_left m) mid → Lives a m → MayAsk a m.tally.owed.items m.tally.left
+    → SentFor a m.state.sent.items mid.state.sent.items → KeepsToSlots a mid.state → HasAsks m → Spent a (jobs_left m) mid → Lives a m mid → MayAsk a m.tally.owed.items m.tally.left
 may_ask ask.Finished m mid idle owes same keeps asks spent lives = tt
 may_ask (ask.Submit at job) m mid idle owes more keeps asks spent lives =
     (omega (arith, keeps), submit_left (sum m.tally.owed.items) (jobs_left m) (jobs_left mid) (asks_for m.tally.hand) m.tally.left (asks lives.0 lives.1) spent)
@@ -312,7 +312,7 @@ module _ {F : Type 0} {ghosts : Ghosts F} (m m' : Machine F ghosts) where
       ∙ ap (λ us. jobs_at m.state.stage (length us) + jobs_from (length m.deck.statements) (m.at.place + 1)) h.units
 
   has_asks : (mid : Machine F ghosts) (a : Ask (Job F)) → m.tally.hand ≡ Idle → m'.deck ≡ mid.deck → m'.at ≡ mid.at → m'.state ≡ mid.state → m'.tally.left ≡ m.tally.left → m'.tally.owed ≡ m.tally.owed
-      → IsDueAsk (due_of m'.tally.hand) a → HasAsks m → Spent a (jobs_left m) mid → Lives a m → HasAsks m'
+      → IsDueAsk (due_of m'.tally.hand) a → HasAsks m → Spent a (jobs_left m) mid → Lives a m mid → HasAsks m'
   has_asks mid a idle deck at state left owed due asks spent lives = λ none low.
       let hand = m'.tally.hand in
       let have : sum m.tally.owed.items + 2 * jobs_left mid + asks_for hand ≤ m.tally.left =
@@ -328,9 +328,13 @@ module _ {F : Type 0} {ghosts : Ghosts F} (m m' : Machine F ghosts) where
           ∙ ap (λ (a : AtHand). jobs_at m'.state.stage (length m'.state.core.units) + jobs_from (length mid.deck.statements) (a.place + 1)) at
           ∙ ap (λ (x : State F ghosts). jobs_at x.stage (length x.core.units) + jobs_from (length mid.deck.statements) (mid.at.place + 1)) state
 
-      by : (b : Ask (Job F)) (hand : Hand) → IsDueAsk (due_of hand) b → Spent b (jobs_left m) mid → Lives b m → mid.state.ending ≡ None → mid.at.place < length mid.deck.statements
+      by : (b : Ask (Job F)) (hand : Hand) → IsDueAsk (due_of hand) b → Spent b (jobs_left m) mid → Lives b m mid → mid.state.ending ≡ None → mid.at.place < length mid.deck.statements
           → sum m.tally.owed.items + 2 * jobs_left mid + asks_for hand ≤ m.tally.left
-      by ask.Finished hand d sp li none low = let past = sp none in absurd (omega (arith, past, low))
+      by ask.Finished Idle d sp li none low =
+          let alive = li (none, low) in
+          settle_asks (sum m.tally.owed.items) (jobs_left m) (jobs_left mid) (asks_for m.tally.hand) m.tally.left (asks alive.0 alive.1) (none_asked m.tally.hand idle) (sp none low)
+      by ask.Finished (Submitting n) d sp li none low = absurd (let bad : ⊥ = cc in bad)
+      by ask.Finished (Settling n) d sp li none low = absurd (let bad : ⊥ = cc in bad)
       by (ask.Submit at job) Idle d sp li none low = absurd (let bad : ⊥ = cc in bad)
       by (ask.Submit at job) (Submitting n) d sp li none low = submit_asks (sum m.tally.owed.items) (jobs_left m) (jobs_left mid) (asks_for m.tally.hand) m.tally.left (asks li.0 li.1) (none_asked m.tally.hand idle) sp
       by (ask.Submit at job) (Settling n) d sp li none low = absurd (let bad : ⊥ = cc in bad)
@@ -338,12 +342,18 @@ module _ {F : Type 0} {ghosts : Ghosts F} (m m' : Machine F ghosts) where
       by (ask.Settle at) (Submitting n) d sp li none low = absurd (let bad : ⊥ = cc in bad)
       by (ask.Settle at) (Settling n) d sp li none low = settle_asks (sum m.tally.owed.items) (jobs_left m) (jobs_left mid) (asks_for m.tally.hand) m.tally.left (asks li.0 li.1) (none_asked m.tally.hand idle) sp
 
+-- as many statements are left in another deck
+pub known_asks : {F : Type 0} {ghosts : Ghosts F} → (m : Machine F ghosts) (statements : ℕ) → length m.deck.statements ≡ statements → HasAsks m
+    → m.state.ending ≡ None → m.at.place < statements → sum m.tally.owed.items + 2 * (jobs_at m.state.stage (length m.state.core.units) + jobs_from statements (m.at.place + 1)) + asks_for m.tally.hand ≤ m.tally.left
+known_asks m statements long asks =
+    subst (λ n. m.state.ending ≡ None → m.at.place < n → sum m.tally.owed.items + 2 * (jobs_at m.state.stage (length m.state.core.units) + jobs_from n (m.at.place + 1)) + asks_for m.tally.hand ≤ m.tally.left) long asks
+
 -- ---- one call
 
 module _ {F : Type 0} {ghosts : Ghosts F} (m m' : Machine F ghosts) (g : IsGoing m) where
   pub going_asked : (mid : Machine F ghosts) (a : Ask (Job F)) → m.tally.hand ≡ Idle → IsAt mid → mid.deck ≡ m.deck → mid.tally ≡ m.tally → SentFor a m.state.sent.items mid.state.sent.items → KeepsToSlots a mid.state
       → mid.state.told ≡ m.state.told → m'.deck ≡ mid.deck → m'.at ≡ mid.at → m'.state ≡ mid.state → m'.tally.left ≡ mid.tally.left → m'.tally.owed ≡ mid.tally.owed → IsDueAsk (due_of m'.tally.hand) a
-      → Spent a (jobs_left m) mid → Lives a m → IsGoing m'
+      → Spent a (jobs_left m) mid → Lives a m mid → IsGoing m'
   going_asked mid a idle on deck tally sent keeps told deck' at' state' left' owed' due spent lives =
       let left : m'.tally.left ≡ m.tally.left = left' ∙ ap (λ t. t.left) tally in
       record {

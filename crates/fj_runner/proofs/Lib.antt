@@ -20,3 +20,7 @@ pub mod Spending
 pub mod Kept
 pub mod AtHand
 pub mod Begun
+pub mod Same
+pub mod Looks
+pub mod AskedAbout
+pub mod Known

@@ -14,8 +14,8 @@ use Rattle.fj_plain.specs.Telling.{tells_id}
 use Rattle.fj_plain.specs.Transfers.{with_number}
 use Rattle.fj_desk.specs.Core.{Core, Pending}
 use Rattle.fj_desk.specs.Desking.{defined}
-use Rattle.fj_turns.specs.Run.{Run, Held, Stage}
-use Rattle.fj_turns.specs.Turns.{matched, with_core, finish_by, turn_finish, goes}
+use Rattle.fj_turns.specs.Run.{Held, Stage}
+use Rattle.fj_turns.specs.Turns.{matched, with_core, finish_by, turn_finish}
 use Rattle.fj_pending.specs.Plain.{held, pending_of}
 use Rattle.fj_pending.specs.declared.held.Held as code
 use Rattle.fj_acts.specs.State.{core_of}
@@ -59,13 +59,6 @@ module _ {F : Type 0} {ghosts : Ghosts F} (variables : List Variable) (rest : Li
       ap (λ b. finish_by (ends st.0.line st.0.what condition) (record (run_in variables rest files s stage) { core = defined variables st.0.what condition (core_of files s.core); book = b })) (sym e)
       ∙ ap (λ vs. finish_by (ends st.0.line st.0.what condition) (record (run_in variables rest files s stage) { core = record (core_of files s.core) { vars = vs; new_unit = next_new (new_place st.0.what condition) s.core.new_unit } })) (sym v)
       ∙ ap (λ u. finish_by (ends st.0.line st.0.what condition) (record (run_in variables rest files s stage) { core = record (core_of files s.core) { vars = vars; new_unit = u } })) (sym n)
-
--- ---- statements one after another
-
--- what is at hand then is set anew
-pub goes_with : (rest other : List Stated) (r : Run) → goes rest (record r { rest = other }) ≡ goes rest r
-goes_with [] other r = refl
-goes_with (st ∷ rest) other r = refl
 
 -- ---- the output
 

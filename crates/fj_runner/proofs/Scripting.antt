@@ -14,7 +14,7 @@ use Rattle.fj_bay.specs.declared.job.Job.{Job}
 use Rattle.fj_plain.specs.State.{Files}
 use Rattle.fj_plain.specs.Statement.{stated}
 use Rattle.fj_turns.specs.Run.{Run}
-use Rattle.fj_turns.specs.Turns.{asked}
+use Rattle.fj_turns.specs.Turns.{Asked}
 use Rattle.fj_acts.specs.State.{core_of}
 use Rattle.fj_runner.specs.Leaving.{Leaves, Rests}
 use Rattle.fj_runner.specs.Machine.{numbered, run_in, run_of, stage_of}
@@ -27,7 +27,7 @@ use Rattle.fj_runner.specs.declared.machine.AtHand.{AtHand}
 use Rattle.fj_runner.specs.declared.machine.Machine.{Machine}
 use Rattle.fj_runner.proofs.Runs.{hands_none, takes_none}
 
-abbrev run_by : {F : Type 0} {ghosts : Ghosts F} → (F → Bool) → (F → List ℕ) → Files → Deck → AtHand → State F ghosts → Option Run
+abbrev pub run_by : {F : Type 0} {ghosts : Ghosts F} → (F → Bool) → (F → List ℕ) → Files → Deck → AtHand → State F ghosts → Option Run
 run_by told bytes files deck at s = option_map (run_in deck.variables (numbered at.number (drop at.place (stated deck.statements))) files s) (stage_of told bytes deck.variables (numbered at.number (drop at.place (stated deck.statements))) (core_of files s.core) s.stage)
 
 -- the run of a machine does not show its tally
@@ -60,6 +60,7 @@ rests_leaves {taken = taken} out disk m m' r = record {
   of_sink = λ e. inl (r.of_sink e);
   first = r.first;
   deck = r.deck;
+  looks = r.looks;
 }
 
 -- ---- what is asked
@@ -98,13 +99,13 @@ asks_task told bytes count Finished (Settle slot') t = t
 asks_task told bytes count Finished Finished t = tt
 
 -- where the disk tells, before and after
-pub asked_told : {F : Type 0} {ghosts : Ghosts F} → (told : F → Bool) (bytes : F → List ℕ) (count : F → ℕ) (files : Files) (m : Machine F ghosts) (b b' : Bool) (o : Option Run) (r : Run) (result : Ask (Job F)) → cond b o None ≡ Some r
-    → (b ≡ true → b' ≡ true) → (b ≡ true → o ≡ Some r → IsAsked told bytes files m result (asked r))
-    → (cond b' (run_of told bytes files m) None ≡ Some (asked r).run) × IsAsk (bay_meaning told bytes count) (asked r).ask result
-asked_told told bytes count files m false b' o r result e still go = cc
-asked_told told bytes count files m true b' o r result e still go =
-    let a = go refl e in
-    (ap (λ t. cond t (run_of told bytes files m) None) (still refl) ∙ a.run, asks_task told bytes count (asked r).ask result a.asks)
+pub asked_told : {F : Type 0} {ghosts : Ghosts F} → (told : F → Bool) (bytes : F → List ℕ) (count : F → ℕ) (files : Files) (m : Machine F ghosts) (b b' : Bool) (o : Option Run) (r : Run) (a : Asked) (result : Ask (Job F)) → cond b o None ≡ Some r
+    → (b ≡ true → b' ≡ true) → (b ≡ true → o ≡ Some r → IsAsked told bytes files m result a)
+    → (cond b' (run_of told bytes files m) None ≡ Some a.run) × IsAsk (bay_meaning told bytes count) a.ask result
+asked_told told bytes count files m false b' o r a result e still go = cc
+asked_told told bytes count files m true b' o r a result e still go =
+    let it = go refl e in
+    (ap (λ t. cond t (run_of told bytes files m) None) (still refl) ∙ it.run, asks_task told bytes count a.ask result it.asks)
 
 -- one `ask`, by what the tally shows
 pub asks_of : {S G J A P T R : Type 0} → (m : Meaning G J A P T R) (c : Conduct S T R) (old new : S) (result : Ask J) (hand : Hand) (over : Bool) (left : ℕ) (owed : List ℕ)

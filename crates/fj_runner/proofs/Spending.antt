@@ -31,6 +31,7 @@ use Rattle.fj_runner.proofs.Owning.{own_same}
 use Rattle.fj_runner.specs.Spending.{Gives, Lives, Spends, Spent, jobs_at, jobs_from, jobs_left}
 use Rattle.fj_runner.specs.declared.machine.Machine.{Machine}
 use Rattle.fj_runner.specs.declared.stage.Stage.{Stage}
+use Rattle.fj_runner.specs.declared.stage.Stage.TheVariants as stage
 use Rattle.fj_runner.specs.declared.state.State.{State}
 use Rattle.fj_runner.specs.declared.turned.Turned.{Turned}
 use Rattle.fj_runner.specs.declared.turned.Turned.TheVariants as turned
@@ -97,6 +98,16 @@ from_next statements at low = omega (arith, low)
 pub from_later : (statements at at' : ℕ) → at ≤ at' → jobs_from statements at' ≤ jobs_from statements at
 from_later statements at at' low = omega (arith, low)
 
+-- it finished at a statement that has not begun
+pub spent_here : {F : Type 0} {ghosts : Ghosts F} (m mid : Machine F ghosts) → mid.state.stage ≡ stage.Start → mid.deck ≡ m.deck → m.at.place ≤ mid.at.place → Spent {J = ℕ} ask.Finished (jobs_from (length m.deck.statements) m.at.place) mid
+spent_here m mid start deck at = λ none inside.
+    let statements = length mid.deck.statements in
+    let left : jobs_left mid ≡ most_jobs + jobs_from statements (mid.at.place + 1) = ap (λ s. jobs_at s (length mid.state.core.units) + jobs_from statements (mid.at.place + 1)) start in
+    let next = from_next statements mid.at.place inside in
+    let few = from_later statements m.at.place mid.at.place at in
+    let same : jobs_from statements m.at.place ≡ jobs_from (length m.deck.statements) m.at.place = ap (λ d. jobs_from (length d.statements) m.at.place) deck in
+    omega (arith, left, next, few, same)
+
 module _ {F J : Type 0} {ghosts : Ghosts F} where
   pub spent_paused : (a : Ask J) (m : Machine F ghosts) (jobs : ℕ) → Gives a (jobs_at m.state.stage (length m.state.core.units)) jobs → Spent a (jobs + jobs_from (length m.deck.statements) (m.at.place + 1)) m
   spent_paused (ask.Submit slot job) m jobs g = gives_more (ask.Submit slot job) (jobs_at m.state.stage (length m.state.core.units)) jobs (jobs_from (length m.deck.statements) (m.at.place + 1)) g
@@ -106,19 +117,19 @@ module _ {F J : Type 0} {ghosts : Ghosts F} where
   pub spent_le : (a : Ask J) (m : Machine F ghosts) (jobs jobs' : ℕ) → jobs ≤ jobs' → Spent a jobs m → Spent a jobs' m
   spent_le (ask.Submit slot job) m jobs jobs' low g = gives_le (ask.Submit slot job) (jobs_left m) jobs jobs' low g
   spent_le (ask.Settle slot) m jobs jobs' low g = gives_le {J = J} (ask.Settle slot) (jobs_left m) jobs jobs' low g
-  spent_le ask.Finished m jobs jobs' low g = g
+  spent_le ask.Finished m jobs jobs' low g = λ none inside. let few = g none inside in omega (arith, low, few)
 
-  pub lives : (a : Ask J) (m : Machine F ghosts) → m.state.ending ≡ None → m.at.place < length m.deck.statements → Lives a m
-  lives (ask.Submit slot job) m none low = (none, low)
-  lives (ask.Settle slot) m none low = (none, low)
-  lives ask.Finished m none low = tt
+  pub lives : (a : Ask J) (m m' : Machine F ghosts) → m.state.ending ≡ None → m.at.place < length m.deck.statements → Lives a m m'
+  lives (ask.Submit slot job) m m' none low = (none, low)
+  lives (ask.Settle slot) m m' none low = (none, low)
+  lives ask.Finished m m' none low = λ alive. (none, low)
 
   pub ok_spent : {E : Type 0} → (r : Result (Ask J) E) (m : Machine F ghosts) (jobs jobs' : ℕ) → jobs ≤ jobs' → IfOk r (λ a. Spent a jobs m) → IfOk r (λ a. Spent a jobs' m)
   ok_spent (Ok a) m jobs jobs' low g = spent_le a m jobs jobs' low g
   ok_spent (Err e) m jobs jobs' low g = tt
 
-  pub ok_lives : {E : Type 0} → (r : Result (Ask J) E) (m m' : Machine F ghosts) (jobs : ℕ) → m.state.ending ≡ None → m.at.place < length m.deck.statements → IfOk r (λ a. Spent a jobs m') → IfOk r (λ a. Spent a jobs m' × Lives a m)
-  ok_lives (Ok a) m m' jobs none low g = (g, lives a m none low)
+  pub ok_lives : {E : Type 0} → (r : Result (Ask J) E) (m m' : Machine F ghosts) (jobs : ℕ) → m.state.ending ≡ None → m.at.place < length m.deck.statements → IfOk r (λ a. Spent a jobs m') → IfOk r (λ a. Spent a jobs m' × Lives a m m')
+  ok_lives (Ok a) m m' jobs none low g = (g, lives a m m' none low)
   ok_lives (Err e) m m' jobs none low g = tt
 
 pub is_none_by : {X : Type 0} → (o : Option X) → is_some o ≡ false → o ≡ None

@@ -23,6 +23,7 @@ pub record Leaves {W D F : Type 0} {ghosts : Ghosts F} (tells_out : W → Type 0
   -- what was lost first stays
   pub first : IsSome m.tally.lost → m'.tally.lost ≡ m.tally.lost
   pub deck : m'.deck ≡ m.deck
+  pub looks : m'.looks ≡ m.looks
 
 -- a call that touches neither disk nor sink
 pub record Rests {F : Type 0} {ghosts : Ghosts F} (m m' : Machine F ghosts) : Type 0 where
@@ -34,6 +35,7 @@ pub record Rests {F : Type 0} {ghosts : Ghosts F} (m m' : Machine F ghosts) : Ty
   pub of_sink : m'.tally.lost ≡ Some Sink → m.tally.lost ≡ Some Sink
   pub first : IsSome m.tally.lost → m'.tally.lost ≡ m.tally.lost
   pub deck : m'.deck ≡ m.deck
+  pub looks : m'.looks ≡ m.looks
 
 -- one call of a runner, whose sink, disk and machine go by these names: they are the same ones
 pub record Leads {N : Type 0} (out disk machine out' disk' machine' : N) (left_so given_up_so asking_so stays_so reason_so keeps_so : Type 0) : Type 0 where

@@ -17,3 +17,7 @@ pub mod Going
 pub mod Spending
 pub mod Kept
 pub mod Handing
+pub mod Room
+pub mod Asking
+pub mod Looking
+pub mod Showing

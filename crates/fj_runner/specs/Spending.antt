@@ -47,15 +47,18 @@ abbrev pub Spends : {F : Type 0} {ghosts : Ghosts F} → ℕ → Turned F → St
 Spends jobs (turned.Pauses a) s = Gives a (jobs_at s.stage (length s.core.units)) jobs
 Spends jobs _ s = Unit {0}
 
--- by a call; nothing is asked where the deck ended
+-- by a call; also where it finished at a statement
 abbrev pub Spent : {F J : Type 0} {ghosts : Ghosts F} → Ask J → ℕ → Machine F ghosts → Type 0
-Spent ask.Finished jobs m = m.state.ending ≡ None → length m.deck.statements ≤ m.at.place
+Spent ask.Finished jobs m = m.state.ending ≡ None → m.at.place < length m.deck.statements → jobs_left m ≤ jobs
 Spent a jobs m = Gives a (jobs_left m) jobs
 
--- something is asked at a statement alone
-abbrev pub Lives : {F J : Type 0} {ghosts : Ghosts F} → Ask J → Machine F ghosts → Type 0
-Lives ask.Finished m = Unit {0}
-Lives _ m = (m.state.ending ≡ None) × (m.at.place < length m.deck.statements)
+abbrev pub IsAlive : {F : Type 0} {ghosts : Ghosts F} → Machine F ghosts → Type 0
+IsAlive m = (m.state.ending ≡ None) × (m.at.place < length m.deck.statements)
+
+-- something is asked at a statement alone, and so it finishes at one
+abbrev pub Lives : {F J : Type 0} {ghosts : Ghosts F} → Ask J → Machine F ghosts → Machine F ghosts → Type 0
+Lives ask.Finished m m' = IsAlive m' → IsAlive m
+Lives _ m m' = IsAlive m
 
 -- ---- asks
 

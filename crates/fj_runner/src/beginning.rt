@@ -51,7 +51,7 @@ use fj_world::Ask;
 use std::alloc::{AllocError, Global};
 
 /// The unit that the file of an INQUIRE is connected to.
-fn unit_asked(units: &Units, statement: &Statement) -> Option<u32>
+pub(crate) fn unit_asked(units: &Units, statement: &Statement) -> Option<u32>
     ensures { IsUnitAsked result (unit_named units.now) statement.now }
 {
     match statement {

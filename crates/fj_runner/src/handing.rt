@@ -42,7 +42,7 @@ fn number_in_hand<F: FileStore>(
 }
 
 /// Gives the unit of a statement its number, if it has one.
-fn put_in(number: Option<u32>, what: &mut Statement)
+pub(crate) fn put_in(number: Option<u32>, what: &mut Statement)
     ensures { what.new ≡ put_in number what.old }
 {
     if let Some(number) = number {
@@ -51,7 +51,7 @@ fn put_in(number: Option<u32>, what: &mut Statement)
 }
 
 /// Puts a statement back into its place.
-fn put_back(statements: &mut Statements, place: usize, lined: Lined)
+pub(crate) fn put_back(statements: &mut Statements, place: usize, lined: Lined)
     requires { place < length statements.old }
     ensures { statements.new ≡ slice_set statements.old place lined }
 {
@@ -90,6 +90,7 @@ impl<F: FileStore> Machine<F> {
         ensures deck { self.new.deck ≡ self.old.deck }
         ensures tally { self.new.tally ≡ self.old.tally }
         ensures kept { self.new.kept ≡ self.old.kept }
+        ensures looks { self.new.looks ≡ self.old.looks }
     {
         let place = self.at.place;
         let none = Lined {

@@ -2,6 +2,7 @@
 ghost use Rattle.std.specs.Prelude.{◌≡◌};
 
 use crate::ending::Ending;
+use crate::looking::Look;
 use crate::machine::Machine;
 use crate::state::State;
 use fj_acts::Core;
@@ -23,6 +24,7 @@ pub struct Left<F: FileStore> {
     pub at: usize,
     /// A connection whose job was refused.
     pub kept: Option<Connection<F>>,
+    pub looks: Vec<Look>,
 }
 
 impl<F: FileStore> Machine<F> {
@@ -35,6 +37,7 @@ impl<F: FileStore> Machine<F> {
         ensures lost { result.lost ≡ self.tally.lost }
         ensures at { result.at ≡ self.at.place }
         ensures kept { result.kept ≡ self.kept }
+        ensures looks { result.looks ≡ self.looks }
     {
         let Machine {
             deck,
@@ -42,6 +45,7 @@ impl<F: FileStore> Machine<F> {
             at,
             tally,
             kept,
+            looks,
         } = self;
         let State { core, ending, .. } = state;
         Left {
@@ -52,6 +56,7 @@ impl<F: FileStore> Machine<F> {
             lost: tally.lost,
             at: at.place,
             kept,
+            looks,
         }
     }
 }

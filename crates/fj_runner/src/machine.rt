@@ -1,8 +1,10 @@
 // What the runner holds between two asks.
-ghost use Rattle.std.specs.Prelude.{◌≡◌, true, IsSome};
+ghost use Rattle.std.specs.Prelude.{◌≡◌, ◌+◌, ◌≤◌, true, IsSome, drop, length, vec_capacity};
 ghost use Rattle.fj_items.specs.Kinds.{kinds_of};
 ghost use Rattle.fj_runner.specs.Closing.{hand_may_be_at};
+ghost use Rattle.fj_runner.specs.Room.{looks_left};
 
+use crate::looking::Look;
 use crate::state::State;
 use crate::tally::Tally;
 use fj_connect::Connection;
@@ -25,7 +27,10 @@ pub struct Machine<F: FileStore> {
     pub(crate) tally: Tally,
     /// A connection whose job was refused. It is over then, so no second one comes.
     pub(crate) kept: Option<Connection<F>>,
+    /// The looks that it made, with room for those that may still come.
+    pub(crate) looks: Vec<Look>,
     ghost kinds: { state.core.store.kinds ≡ kinds_of deck.variables },
     ghost hand: { hand_may_be_at deck.statements at.place state.stage ≡ true },
     ghost refused: { IsSome kept → tally.over ≡ true },
+    ghost room: { length looks.items + looks_left (drop at.place deck.statements) ≤ vec_capacity looks },
 }

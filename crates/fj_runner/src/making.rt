@@ -1,5 +1,5 @@
 // A runner that has not begun.
-ghost use Rattle.std.specs.Prelude.{◌≡◌, ◌*◌, ◌-◌, ◌^◌, [], length, min, map, replicate, false, Some, None, IfOk};
+ghost use Rattle.std.specs.Prelude.{◌≡◌, ◌≤◌, ◌*◌, ◌-◌, ◌^◌, [], length, vec_capacity, min, map, replicate, false, Some, None, IfOk};
 ghost use Rattle.fj_items.specs.Kinds.{kinds_of};
 ghost use Rattle.fj_desk.specs.Desking.{fresh};
 ghost use Rattle.fj_acts.specs.State.{core_of};
@@ -8,11 +8,13 @@ ghost use Rattle.fj_plain.specs.Statement.{stated};
 ghost use Rattle.fj_turns.specs.Serving.{first_run};
 ghost use Rattle.fj_runner.specs.Machine.{run_of};
 ghost use Rattle.fj_runner.specs.Making.{shape_of};
+ghost use Rattle.fj_runner.specs.Room.{looks_left};
 ghost use Rattle.fj_runner.specs.declared.hand.Hand.TheVariants.{Idle};
 ghost use Rattle.fj_statement.specs.Sound.{IsSound};
 ghost use Rattle.fj_runner.specs.Going.{IsGoing};
 
 use crate::hand::Hand;
+use crate::looking::{Look, asks_whether};
 use crate::machine::{AtHand, Machine};
 use crate::stage::Stage;
 use crate::state::State;
@@ -21,7 +23,7 @@ use fj_acts::Core;
 use fj_items::Output;
 use fj_outside::FileStore;
 use fj_pending::Pendings;
-use fj_statement::{Deck, FIRST_NEW_UNIT, Variable};
+use fj_statement::{Deck, FIRST_NEW_UNIT, Lined, Variable};
 use fj_store::Store;
 use fj_units::{Names, Units};
 use fj_value::{Items, Kind};
@@ -89,6 +91,28 @@ fn first_tally(alloc: Global, statements: usize) -> Result<Tally, AllocError>
     })
 }
 
+/// How many statements may look.
+fn looks_left(statements: &[Lined]) -> usize
+    ensures { result ≡ looks_left statements.now }
+{
+    let mut count = 0;
+    for lined in statements {
+        if asks_whether(&lined.what) {
+            count += 1;
+        }
+    }
+    count
+}
+
+/// No look, and room for so many.
+fn first_looks(alloc: Global, most: usize) -> Result<Vec<Look>, AllocError>
+    ensures { IfOk result (λ looks. (looks.items ≡ []) × (most ≤ vec_capacity looks)) }
+{
+    let mut looks = Vec::new(alloc);
+    looks.reserve(most)?;
+    Ok(looks)
+}
+
 impl<F: FileStore> Machine<F> {
     /// A runner of the deck that has not begun.
     pub fn new(alloc: Global, deck: Deck) -> Result<Machine<F>, AllocError>
@@ -98,10 +122,12 @@ impl<F: FileStore> Machine<F> {
         ensures names { IfOk result (λ m. m.state.core.names ≡ []) }
         ensures deck { IfOk result (λ m. m.deck ≡ deck) }
         ensures kept { IfOk result (λ m. m.kept ≡ None) }
+        ensures looks { IfOk result (λ m. m.looks.items ≡ []) }
         ensures on { IsSound deck → IfOk result IsGoing }
     {
         let core = first_core(alloc, deck.variables.as_slice())?;
         let tally = first_tally(alloc, deck.statements.len())?;
+        let looks = first_looks(alloc, looks_left(deck.statements.as_slice()))?;
         Ok(Machine {
             deck,
             state: State {
@@ -118,6 +144,7 @@ impl<F: FileStore> Machine<F> {
             },
             tally,
             kept: None,
+            looks,
         })
     }
 }

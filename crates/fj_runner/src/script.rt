@@ -1,20 +1,21 @@
 // The runner as a script over slots of bays.
-ghost use Rattle.std.specs.Prelude.{◌≡◌, true, false, Some, None, IfErr, if◌then◌else◌};
+ghost use Rattle.std.specs.Prelude.{◌≡◌, true, false, Some, IfErr};
 ghost use Rattle.fj_bay.specs.Meaning.{bay_meaning};
 ghost use Rattle.fj_world.specs.Conduct.{Idle, IsSubmitting, IsSettling, Asks, Takes, Tells};
 ghost use Rattle.fj_turns.specs.Serving.{run_conduct};
 ghost use Rattle.fj_units.specs.Names.{AreInUse};
 ghost use Rattle.fj_units.specs.Files.{files_of};
 ghost use Rattle.fj_turns.specs.Run.{Run};
-ghost use Rattle.fj_turns.specs.Turns.{asked};
+ghost use Rattle.fj_looks.specs.Inquiring.{looks_by};
+ghost use Rattle.fj_looks.specs.Looking.{asked_until};
 ghost use Rattle.fj_runner.specs.Admitting.{IsDue};
 ghost use Rattle.fj_runner.specs.Turned.{IsAsked};
-ghost use Rattle.fj_runner.specs.Failing.{IsGivenUp, FailsAsking, Stays, HasReason};
+ghost use Rattle.fj_runner.specs.Failing.{IsGivenUp, HasReason};
 ghost use Rattle.fj_world.specs.Giving.{GivesOf};
 ghost use Rattle.fj_runner.specs.Kept.{KeepsFiles, MayKeep};
-ghost use Rattle.fj_runner.specs.Leaving.{Leaves, Leads};
+ghost use Rattle.fj_runner.specs.Leaving.{Leaves};
 ghost use Rattle.fj_runner.specs.Machine.{run_of};
-ghost use Rattle.fj_runner.specs.Tallying.{due_of, owed_at};
+ghost use Rattle.fj_runner.specs.Showing.{shows_by};
 ghost use Rattle.fj_runner.specs.Fitting.{HasRoom};
 ghost use Rattle.fj_runner.specs.Going.{IsGoing, OwesAsGiven};
 
@@ -38,7 +39,8 @@ pub struct Runner<'a, 'b, 'c, W: Sink, D: Disk> {
 }
 
 /// What the machine asks next.
-fn next_of<W: Sink, D: Disk>(
+pub(crate) fn next_of<W: Sink, D: Disk>(
+    to_look: bool,
     alloc: Global,
     machine: &mut Machine<D::File>,
     disk: &mut D,
@@ -55,33 +57,21 @@ fn next_of<W: Sink, D: Disk>(
     ensures gives { GivesOf MayKeep machine.new result }
     ensures keeps { KeepsFiles machine.old machine.new }
     ensures asks { D.tells disk.old → (r : Run) → run_of D.File.told D.File.bytes (files_of (D.held disk.old)) machine.old ≡ Some r → machine.new.tally.over ≡ false
-        → IsAsked D.File.told D.File.bytes (files_of (D.held disk.new)) machine.new result (asked r) }
+        → IsAsked D.File.told D.File.bytes (files_of (D.held disk.new)) machine.new result (asked_until (looks_by to_look) r) }
     ensures names { D.tells disk.old → AreInUse machine.new.state.core.names (D.held disk.new).in_use }
     ensures on { IsGoing machine.old → machine.new.tally.over ≡ false → IsGoing machine.new }
     ensures leaves { Leaves W.tells W.taken W.count D.tells D.count D.refusals out.old disk.old machine.old out.new disk.new machine.new }
     ensures fails { D.tells disk.old → IsGivenUp (W.tells out.old) (W.taken out.old) (W.taken out.new) (D.held disk.new) (D.refusals disk.old) (D.refusals disk.new)
         (run_of D.File.told D.File.bytes (files_of (D.held disk.old)) machine.old) machine.old machine.new }
 {
-    machine.ask(alloc, disk, out)
+    machine.ask(to_look, alloc, disk, out)
 }
 
 impl<'a, 'b, 'c, W: Sink, D: Disk> Script for Runner<'a, 'b, 'c, W, D> {
     type Gear = Bay<D::File>;
 
-    ghost conduct = { run_conduct (record {
-      left = λ r. r.machine.now.tally.left;
-      uses = λ _. 16;
-      owed = λ r at. owed_at r.machine.now.tally.owed.items at;
-      due = λ r. due_of r.machine.now.tally.hand;
-      over = λ r. r.machine.now.tally.over;
-      stopped = λ r. r.machine.now.tally.stopped;
-      leads = λ old new. Leads old.out.ghost_name old.disk.ghost_name old.machine.ghost_name new.out.ghost_name new.disk.ghost_name new.machine.ghost_name
-          (Leaves W.tells W.taken W.count D.tells D.count D.refusals old.out.now old.disk.now old.machine.now new.out.now new.disk.now new.machine.now)
-          (IsGivenUp (W.tells old.out.now) (W.taken old.out.now) (W.taken new.out.now) (D.held new.disk.now) (D.refusals old.disk.now) (D.refusals new.disk.now)
-          (if D.told old.disk.now then run_of D.File.told D.File.bytes (files_of (D.held old.disk.now)) old.machine.now else None) old.machine.now new.machine.now)
-          (FailsAsking old.disk.now new.disk.now old.machine.now new.machine.now) (Stays (W.taken old.out.now) (W.taken new.out.now) old.disk.now new.disk.now old.machine.now new.machine.now) (HasReason old.machine.now new.machine.now) (KeepsFiles old.machine.now new.machine.now);
-      state = λ r. if D.told r.disk.now then run_of D.File.told D.File.bytes (files_of (D.held r.disk.now)) r.machine.now else None;
-    }) };
+    ghost conduct = { run_conduct (shows_by W.tells W.taken W.count D.tells D.told D.held D.count D.refusals D.File.told D.File.bytes
+        (λ r. r.out.ghost_name) (λ r. r.disk.ghost_name) (λ r. r.machine.ghost_name) (λ r. r.out.now) (λ r. r.disk.now) (λ r. r.machine.now)) };
 
     ghost gives = { λ r job. MayKeep r.machine.now job };
 
@@ -90,7 +80,7 @@ impl<'a, 'b, 'c, W: Sink, D: Disk> Script for Runner<'a, 'b, 'c, W, D> {
         ensures asks { Asks (bay_meaning D.File.told D.File.bytes D.File.count) ⟦<Runner<'a, 'b, 'c, W, D> as Script>⟧.conduct self.old result self.new }
         ensures gives { GivesOf ⟦<Runner<'a, 'b, 'c, W, D> as Script>⟧.gives self.new result }
     {
-        next_of(self.alloc, self.machine, self.disk, self.out)
+        next_of(false, self.alloc, self.machine, self.disk, self.out)
     }
 
     fn took(&mut self, number: Result<u64, Refused<Job<D::File>>>)

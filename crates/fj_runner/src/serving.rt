@@ -6,7 +6,9 @@ ghost use Rattle.fj_bay.specs.Plain.{task_of, reply_of};
 ghost use Rattle.fj_plain.specs.State.{Files};
 ghost use Rattle.fj_desk.specs.Desks.{Outcome};
 ghost use Rattle.fj_turns.specs.Run.{Run};
-ghost use Rattle.fj_turns.specs.Turns.{asked, told_of};
+ghost use Rattle.fj_turns.specs.Turns.{told_of};
+ghost use Rattle.fj_looks.specs.Inquiring.{looks_by};
+ghost use Rattle.fj_looks.specs.Looking.{asked_until};
 ghost use Rattle.fj_units.specs.Names.{AreInUse};
 ghost use Rattle.fj_units.specs.Files.{files_of};
 ghost use Rattle.fj_world.specs.Conduct.{IsSubmitting, IsSettling, IsAnswer, is_done, owed_after_settle, owed_after_took};
@@ -38,6 +40,7 @@ impl<F: FileStore> Machine<F> {
         requires over { self.old.tally.over ≡ true }
         requires none { self.old.kept ≡ None }
         ensures kept { self.new.kept ≡ brought job }
+        ensures looks { self.new.looks ≡ self.old.looks }
         ensures state { self.new.state ≡ self.old.state }
         ensures at { self.new.at ≡ self.old.at }
         ensures tally { self.new.tally ≡ self.old.tally }
@@ -57,6 +60,7 @@ impl<F: FileStore> Machine<F> {
         ensures due { IsDue self.old.tally result self.new.tally }
         ensures admitted { IsAdmitted self.old.tally ask result self.new.tally }
         ensures kept { self.new.kept ≡ self.old.kept }
+        ensures looks { self.new.looks ≡ self.old.looks }
         ensures state { self.new.state ≡ self.old.state }
         ensures at { self.new.at ≡ self.old.at }
         ensures deck { self.new.deck ≡ self.old.deck }
@@ -69,9 +73,10 @@ impl<F: FileStore> Machine<F> {
         ask
     }
 
-    /// Asks what the deck asks next, unless it is over.
+    /// Asks what the deck asks next, unless it is over. Where it is to look, it finishes at a statement that looks.
     pub(crate) fn ask<W: Sink, D: Disk<File = F>>(
         &mut self,
+        to_look: bool,
         alloc: Global,
         disk: &mut D,
         out: &mut W,
@@ -85,7 +90,7 @@ impl<F: FileStore> Machine<F> {
         ensures rests { self.old.tally.over ≡ true → (self.new ≡ self.old) × (disk.new ≡ disk.old) × (out.new ≡ out.old) }
         ensures reason { HasReason self.old self.new }
         ensures asks { D.tells disk.old → (r : Run) → run_of F.told F.bytes (files_of (D.held disk.old)) self.old ≡ Some r → self.new.tally.over ≡ false
-            → IsAsked F.told F.bytes (files_of (D.held disk.new)) self.new result (asked r) }
+            → IsAsked F.told F.bytes (files_of (D.held disk.new)) self.new result (asked_until (looks_by to_look) r) }
         ensures names { D.tells disk.old → AreInUse self.new.state.core.names (D.held disk.new).in_use }
         ensures gives { GivesOf MayKeep self.new result }
         ensures keeps { KeepsFiles self.old self.new }
@@ -97,7 +102,7 @@ impl<F: FileStore> Machine<F> {
         if self.tally.over {
             return Ask::Finished;
         }
-        match self.next_ask(alloc, disk, out) {
+        match self.next_ask(to_look, alloc, disk, out) {
             Ok(ask) => self.admit(ask),
             Err(lost) => {
                 self.tally.lose(lost);

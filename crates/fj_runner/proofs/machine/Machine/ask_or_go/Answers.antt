@@ -3,6 +3,9 @@ use Rattle.fj_statement.specs.Sound.{IsSound}
 use Rattle.fj_plain.specs.State.{Files}
 use Rattle.fj_units.specs.Files.{files_of}
 use Rattle.fj_turns.specs.Run.{Start}
+use Rattle.fj_turns.specs.Turns.{Asked}
+use Rattle.fj_looks.specs.Inquiring.{looks_by}
+use Rattle.fj_runner.specs.Turned.{IsAsked}
 use Rattle.fj_runner.specs.Machine.{run_at}
 use Rattle.fj_runner.proofs.Failures.{on_err_by}
 use Rattle.fj_runner.proofs.GivingUp.{fails_like}
@@ -57,3 +60,12 @@ returns-in-None-clause-spends g c = λ jobs spends s counts.
     let spent = subst (λ d. IfOk c.go.result (λ ask. Spent ask (jobs_from (length d.statements) mid.at.place) c.go.new.self)) c.asked_by.ensures.deck c.go.ensures.spends in
     let few_jobs = from_later statements (m.at.place + 1) mid.at.place past in
     ok_spent c.go.result c.go.new.self (jobs_from statements mid.at.place) (jobs + jobs_from statements (m.at.place + 1)) (omega (arith, few_jobs)) spent
+
+pub returns-in-None-clause-asks : goal.returns-in-None-clause-asks
+returns-in-None-clause-asks g c = λ tells t i.
+    let files : Files = files_of (g.D.Disk.held c.args.disk.now) in
+    let k = none_has c.asked_by.result _ c.in-None.is (c.asked_by.ensures.passes (looks_by c.args.to_look) files t i) in
+    subst (λ (a : Asked). IfOk c.go.result (λ ask. IsAsked g.F.FileStore.told g.F.FileStore.bytes (files_of (g.D.Disk.held c.go.new.disk)) c.go.new.self ask a)) (sym k.1) (c.go.ensures.asks tells k.0)
+
+pub go-requires-clause-start : goal.go-requires-clause-start
+go-requires-clause-start g c = c.in-None.ensures.started

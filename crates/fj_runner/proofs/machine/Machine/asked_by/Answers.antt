@@ -1,9 +1,11 @@
-use Rattle.std.proofs.Common.{◌+◌, List, drop, ap, subst, refl, sym}
+use Rattle.std.proofs.Common.{◌+◌, List, drop, length, vec_capacity, ap, subst, refl, sym}
 use Rattle.fj_plain.specs.Statement.{Stated, stated}
 use Rattle.fj_turns.specs.Passing.{passed_by}
 use Rattle.fj_runner.specs.Machine.{rest_of}
 use Rattle.fj_runner.specs.Turned.{IsTurn}
-use Rattle.fj_runner.proofs.NextAsks.{passes_goes}
+use Rattle.fj_runner.proofs.NextAsks.{passes_goes, pausing_asks, stops_asks}
+use Rattle.fj_runner.proofs.Known.{start_may}
+use Rattle.fj_runner.proofs.Looks.{room_behind}
 use Rattle.fj_runner.specs.Going.{Counts, HaveTurned}
 use Rattle.fj_runner.proofs.Kept.{gives_asked}
 use Rattle.fj_runner.proofs.Counting.{on_paused, on_passed, on_stopped}
@@ -13,13 +15,13 @@ use Rattle.fj_runner.proofs.Spending.{none_ended, spent_paused}
 use Rattle.fj_runner.proofs.machine.Machine.asked_by.Goals as goal
 
 pub returns-in-Passes-clause-passes : goal.returns-in-Passes-clause-passes
-returns-in-Passes-clause-passes g c = λ files t i.
+returns-in-Passes-clause-passes g c = λ looks files t i.
     let told = g.F.FileStore.told in
     let bytes = g.F.FileStore.bytes in
     let m = c.args.self.now in
     let more : List Stated = drop (m.at.place + 1) (stated m.deck.statements) in
     let it = subst (λ x. IsTurn told bytes m.deck.variables (rest_of m) files m.state x t) c.in-Passes.is i in
-    (it.0, passes_goes told bytes files m more t it.1)
+    (it.0, passes_goes looks told bytes files m more t it.1)
 
 pub returns-in-Passes-clause-passed : goal.returns-in-Passes-clause-passed
 returns-in-Passes-clause-passed g c = λ files t i.
@@ -84,6 +86,34 @@ returns-in-Pauses-clause-spends g c = λ jobs spends s counts.
     spent_paused c.in-Pauses.ask m jobs (subst (λ t. Spends jobs t m.state) c.in-Pauses.is spends)
 
 pub returns-in-Stops-clause-spends : goal.returns-in-Stops-clause-spends
-returns-in-Stops-clause-spends g c = λ jobs spends s counts none.
+returns-in-Stops-clause-spends g c = λ jobs spends s counts none inside.
     let m = c.args.self.now in
     none_ended m.state.ending (subst (λ t. Counts t s m.state) c.in-Stops.is counts).1 none
+
+pub returns-in-Pauses-clause-asks : goal.returns-in-Pauses-clause-asks
+returns-in-Pauses-clause-asks g c = λ looks files t i.
+    let told = g.F.FileStore.told in
+    let bytes = g.F.FileStore.bytes in
+    let m = c.args.self.now in
+    pausing_asks looks told bytes files m (drop (m.at.place + 1) (stated m.deck.statements)) t c.in-Pauses.ask (subst (λ x. IsTurn told bytes m.deck.variables (rest_of m) files m.state x t) c.in-Pauses.is i)
+
+pub returns-in-Stops-clause-asks : goal.returns-in-Stops-clause-asks
+returns-in-Stops-clause-asks g c = λ looks files t i.
+    let told = g.F.FileStore.told in
+    let bytes = g.F.FileStore.bytes in
+    let m = c.args.self.now in
+    let it = subst (λ x. IsTurn told bytes m.deck.variables (rest_of m) files m.state x t) c.in-Stops.is i in
+    stops_asks looks told bytes files m (drop (m.at.place + 1) (stated m.deck.statements)) t it.0 it.1
+
+pub returns-in-Passes-clause-started : goal.returns-in-Passes-clause-started
+returns-in-Passes-clause-started g c = c.requires.starts c.in-Passes.is
+
+pub invariant_of-self : goal.invariant_of-self
+invariant_of-self g c =
+    let m = c.args.self.now in
+    record {
+      kinds = m.kinds;
+      hand = start_may m.deck.statements (m.at.place + 1) m.state.stage (c.requires.starts c.in-Passes.is);
+      refused = m.refused;
+      room = room_behind (length m.looks.items) (vec_capacity m.looks) m.deck.statements m.at.place m.room;
+    }

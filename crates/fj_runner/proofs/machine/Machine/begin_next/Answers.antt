@@ -6,14 +6,16 @@ use Rattle.fj_acts.specs.State.{core_of}
 use Rattle.fj_units.specs.Files.{files_of}
 use Rattle.fj_turns.specs.Few.{most_jobs}
 use Rattle.fj_turns.specs.Run.{Run, Start}
-use Rattle.fj_turns.specs.Turns.{Asked, by_turn, goes, turn_start}
+use Rattle.fj_turns.specs.Turns.{Asked, turn_start}
+use Rattle.fj_looks.specs.Looking.{goes_until, turn_until}
+use Rattle.fj_looks.proofs.Going.{goes_turn}
 use Rattle.fj_turns.specs.Passing.{passed_by}
 use Rattle.fj_runner.specs.Machine.{rest_of, run_at, stage_of}
 use Rattle.fj_runner.specs.Turned.{IsAsked}
 use Rattle.fj_runner.specs.declared.stage.Stage.TheVariants as stage
 use Rattle.fj_runner.proofs.AtHand.{behind_jobs, behind_same}
 use Rattle.fj_runner.proofs.GivingUp.{fails_for, fails_like, passed_at}
-use Rattle.fj_runner.proofs.NextAsks.{behind_at, goes_at, here_at}
+use Rattle.fj_runner.proofs.NextAsks.{behind_at, here_at}
 use Rattle.fj_runner.proofs.Counting.{files_at, have_start}
 use Rattle.fj_runner.specs.Spending.{Spends, Spent, jobs_at}
 use Rattle.fj_runner.proofs.Spending.{from_next}
@@ -21,7 +23,7 @@ use Rattle.fj_runner.proofs.Kept.{asks_on, gave_up}
 use Rattle.fj_runner.proofs.machine.Machine.begin_next.Goals as goal
 
 pub returns-in-Ok-clause-asks : goal.returns-in-Ok-clause-asks
-returns-in-Ok-clause-asks g c = λ tells.
+returns-in-Ok-clause-asks g c = λ looks tells none.
     let told = g.F.FileStore.told in
     let bytes = g.F.FileStore.bytes in
     let m = c.args.self.now in
@@ -30,12 +32,12 @@ returns-in-Ok-clause-asks g c = λ tells.
     let r : Run = run_at files m Start in
     let h = here_at m c.requires.at in
     let it = c.in-Ok.ensures.turn tells r h.0 (behind_at m) (ap (λ s. option_map (run_at files m) (stage_of told bytes m.deck.variables (rest_of m) (core_of files m.state.core) s)) c.put_start.ensures) h.1 in
-    subst (λ (a : Asked). IfSome c.asked_by.result (λ ask. IsAsked told bytes after c.asked_by.new.self ask a)) (sym (goes_at h.0 (behind_at m) r h.1))
-    (subst (λ (more : List Stated). IfSome c.asked_by.result (λ ask. IsAsked told bytes after c.asked_by.new.self ask (by_turn more (turn_start h.0 r)))) (behind_same m c.turn.new.self c.turn.ensures.deck c.turn.ensures.place)
-    (c.asked_by.ensures.asks after (turn_start h.0 r) it))
+    subst (λ (a : Asked). IfSome c.asked_by.result (λ ask. IsAsked told bytes after c.asked_by.new.self ask a)) (sym (goes_turn looks h.0 (behind_at m) r h.1 none))
+    (subst (λ (more : List Stated). IfSome c.asked_by.result (λ ask. IsAsked told bytes after c.asked_by.new.self ask (turn_until looks more (turn_start h.0 r)))) (behind_same m c.turn.new.self c.turn.ensures.deck c.turn.ensures.place)
+    (c.asked_by.ensures.asks looks after (turn_start h.0 r) it))
 
 pub returns-in-Ok-clause-passes : goal.returns-in-Ok-clause-passes
-returns-in-Ok-clause-passes g c = λ tells.
+returns-in-Ok-clause-passes g c = λ looks tells none.
     let told = g.F.FileStore.told in
     let bytes = g.F.FileStore.bytes in
     let m = c.args.self.now in
@@ -45,9 +47,9 @@ returns-in-Ok-clause-passes g c = λ tells.
     let h = here_at m c.requires.at in
     let it = c.in-Ok.ensures.turn tells r h.0 (behind_at m) (ap (λ s. option_map (run_at files m) (stage_of told bytes m.deck.variables (rest_of m) (core_of files m.state.core) s)) c.put_start.ensures) h.1 in
     let new = c.asked_by.new.self in
-    subst (λ (a : Asked). IfNone c.asked_by.result ((new.state.stage ≡ stage.Start) × (a ≡ goes (rest_of new) (run_at after new Start)))) (sym (goes_at h.0 (behind_at m) r h.1))
-    (subst (λ (more : List Stated). IfNone c.asked_by.result ((new.state.stage ≡ stage.Start) × (by_turn more (turn_start h.0 r) ≡ goes (rest_of new) (run_at after new Start)))) (behind_same m c.turn.new.self c.turn.ensures.deck c.turn.ensures.place)
-    (c.asked_by.ensures.passes after (turn_start h.0 r) it))
+    subst (λ (a : Asked). IfNone c.asked_by.result ((new.state.stage ≡ stage.Start) × (a ≡ goes_until looks (rest_of new) (run_at after new Start)))) (sym (goes_turn looks h.0 (behind_at m) r h.1 none))
+    (subst (λ (more : List Stated). IfNone c.asked_by.result ((new.state.stage ≡ stage.Start) × (turn_until looks more (turn_start h.0 r) ≡ goes_until looks (rest_of new) (run_at after new Start)))) (behind_same m c.turn.new.self c.turn.ensures.deck c.turn.ensures.place)
+    (c.asked_by.ensures.passes looks after (turn_start h.0 r) it))
 
 pub returns-in-Ok-clause-passed : goal.returns-in-Ok-clause-passed
 returns-in-Ok-clause-passed g c = λ tells.
@@ -112,3 +114,6 @@ returns-in-Err-clause-follows g c = λ start i.
     let have = have_start _ m.state.core.names m.state.core.units h.0.0.what c.put_start.ensures files in
     gave_up _ _ _ c.in-Err.lost (c.in-Err.ensures.vain h.0 (behind_at m) h.1 have)
     (λ sound lost. c.turn.ensures.fits sound h.0 (behind_at m) h.1 have (λ no. absurd (no c.put_start.ensures)) i.kept (c.in-Err.is ∙ ap Err lost))
+
+pub returns-in-Ok-clause-started : goal.returns-in-Ok-clause-started
+returns-in-Ok-clause-started g c = c.asked_by.ensures.started

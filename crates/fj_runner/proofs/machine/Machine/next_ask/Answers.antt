@@ -1,21 +1,26 @@
-use Rattle.std.proofs.Common.{◌≡◌, ◌+◌, ◌<◌, ◌≤◌, ◌^◌, List, ◌∷◌, length, None, Err, IfOk, sym, ap, ◌∙◌, subst, arith}
+use Rattle.std.proofs.Common.{◌≡◌, ◌+◌, ◌<◌, ◌≤◌, ◌^◌, List, ◌∷◌, length, None, Err, IfOk, refl, sym, ap, ◌∙◌, subst, arith}
 use Rattle.fj_statement.specs.Sound.{IsSound}
 use Rattle.fj_plain.specs.State.{Files}
 use Rattle.fj_plain.specs.Statement.{Stated}
 use Rattle.fj_units.specs.Files.{files_of}
-use Rattle.fj_turns.specs.Run.{Run}
-use Rattle.fj_turns.specs.Turns.{Turn, turn, Asked, by_turn}
+use Rattle.fj_turns.specs.Run.{Run, Start}
+use Rattle.fj_turns.specs.Turns.{Turn, turn, Asked}
+use Rattle.fj_looks.specs.Inquiring.{looks_by}
+use Rattle.fj_looks.specs.Looking.{asked_until, turn_until}
+use Rattle.fj_looks.proofs.Going.{asked_begun, asked_start}
 use Rattle.fj_turns.specs.Passing.{passed_by}
-use Rattle.fj_runner.specs.Machine.{run_at, stage_at}
+use Rattle.fj_acts.specs.State.{core_of}
+use Rattle.fj_looks.proofs.Rests.{HasBegun}
+use Rattle.fj_runner.specs.Machine.{rest_of, run_at, stage_at}
 use Rattle.fj_runner.specs.Turned.{IsAsked}
 use Rattle.fj_runner.specs.declared.tally.Tally.{Tally}
 use Rattle.fj_runner.proofs.AtHand.{behind_jobs, behind_same}
 use Rattle.fj_runner.proofs.Failures.{on_err_by}
-use Rattle.fj_runner.proofs.GivingUp.{fails_behind, fails_for, passed_at, passes_one}
-use Rattle.fj_runner.proofs.NextAsks.{asked_turn, behind_at, here_at, not_ended, run_known, rests_asked, ended_asked, done_asked}
+use Rattle.fj_runner.proofs.GivingUp.{fails_behind, fails_for, fails_run, passed_at, passes_one}
+use Rattle.fj_runner.proofs.NextAsks.{at_start, begun_stage, behind_at, done_asked, ended_asked, here_at, not_ended, rests_asked, run_known, some_same}
 use Rattle.fj_runner.proofs.Stepping.{then_steps}
-use Rattle.fj_runner.specs.Spending.{Spent, jobs_at, jobs_from}
-use Rattle.fj_runner.proofs.Spending.{is_none_by, ok_lives, some_ended}
+use Rattle.fj_runner.specs.Spending.{Spent, jobs_at, jobs_from, jobs_left}
+use Rattle.fj_runner.proofs.Spending.{from_next, is_none_by, ok_lives, some_ended}
 use Rattle.fj_runner.proofs.Counting.{room_kept}
 use Rattle.fj_world.specs.declared.ask.Ask.TheVariants as ask
 use Rattle.fj_runner.proofs.Kept.{asks_on, follows_by, gave_up}
@@ -35,8 +40,10 @@ returns-in-Ok-clause-asks g c = λ tells r known.
     let t : Turn = turn h.0 r.stage r in
     let after : Files = files_of (g.D.Disk.held c.ask_or_go.new.disk) in
     let none : r.ending ≡ None = ap (λ (x : Run). x.ending) (sym k.2) ∙ not_ended m.state.ending (sym c.is_some.ensures ∙ c.if-is_some.false) in
-    subst (λ (a : Asked). IfOk c.ask_or_go.result (λ ask. IsAsked told bytes after c.ask_or_go.new.self ask a)) (sym (asked_turn h.0 (behind_at m) r none rest))
-    (subst (λ (more : List Stated). IfOk c.ask_or_go.result (λ ask. IsAsked told bytes after c.ask_or_go.new.self ask (by_turn more t))) (behind_same m c.turn.new.self c.turn.ensures.deck c.turn.ensures.place)
+    let looks = looks_by c.args.to_look in
+    let begun = begun_stage told bytes m.deck.variables (rest_of m) (core_of files m.state.core) m.state.stage k.0 k.1 c.in_default.not-Start in
+    subst (λ (a : Asked). IfOk c.ask_or_go.result (λ ask. IsAsked told bytes after c.ask_or_go.new.self ask a)) (sym (asked_begun looks h.0 (behind_at m) r none rest (subst (λ (x : Run). HasBegun x.stage) k.2 begun)))
+    (subst (λ (more : List Stated). IfOk c.ask_or_go.result (λ ask. IsAsked told bytes after c.ask_or_go.new.self ask (turn_until looks more t))) (behind_same m c.turn.new.self c.turn.ensures.deck c.turn.ensures.place)
     (c.ask_or_go.ensures.asks (c.turn.ensures.steps.telling.0 tells) t (c.in-Ok.ensures.turn tells r h.0 (behind_at m) known h.1)))
 
 pub returns-in-Ok-clause-steps : goal.returns-in-Ok-clause-steps
@@ -77,16 +84,17 @@ returns-in-Err-clause-fails g c = λ tells r known.
 
 pub returns-then-is_some-clause-asks : goal.returns-then-is_some-clause-asks
 returns-then-is_some-clause-asks g c = λ tells r known.
+    let looks = looks_by c.args.to_look in
     let told = g.F.FileStore.told in
     let bytes = g.F.FileStore.bytes in
     let m = c.args.self.now in
     let files : Files = files_of (g.D.Disk.held c.args.disk.now) in
     let k = run_known (run_at files m) (stage_at told bytes files m) r known in
     elim c.then-is_some.branch [
-      | then-is_some-via-then-is_some w ↦ rests_asked told bytes files m r known (ended_asked files m k.0 r k.2 (sym c.is_some.ensures ∙ w.if-is_some.true))
+      | then-is_some-via-then-is_some w ↦ rests_asked looks told bytes files m r known (ended_asked looks files m k.0 r k.2 (sym c.is_some.ensures ∙ w.if-is_some.true))
       | then-is_some-via-else-is_some+then-self-len w ↦
           let low : length m.deck.statements ≤ m.at.place = omega arith in
-          rests_asked told bytes files m r known (done_asked files m k.0 r k.2 (sym c.is_some.ensures ∙ w.if-is_some.false) low)
+          rests_asked looks told bytes files m r known (done_asked looks files m k.0 r k.2 (sym c.is_some.ensures ∙ w.if-is_some.false) low)
     ]
 
 pub returns-in-Ok-clause-follows : goal.returns-in-Ok-clause-follows
@@ -123,8 +131,8 @@ pub returns-then-is_some-clause-spends : goal.returns-then-is_some-clause-spends
 returns-then-is_some-clause-spends g c =
     let m = c.args.self.now in
     elim c.then-is_some.branch [
-      | then-is_some-via-then-is_some w ↦ (λ none. some_ended m.state.ending (sym c.is_some.ensures ∙ w.if-is_some.true) none, tt)
-      | then-is_some-via-else-is_some+then-self-len w ↦ (λ none. omega arith, tt)
+      | then-is_some-via-then-is_some w ↦ (λ none inside. some_ended m.state.ending (sym c.is_some.ensures ∙ w.if-is_some.true) none, λ alive. alive)
+      | then-is_some-via-else-is_some+then-self-len w ↦ (λ none inside. absurd (omega arith), λ alive. alive)
     ]
 
 pub returns-in-Err-clause-follows : goal.returns-in-Err-clause-follows
@@ -142,3 +150,44 @@ returns-in-Err-clause-follows g c = λ i.
 
 pub returns-then-is_some-clause-follows : goal.returns-then-is_some-clause-follows
 returns-then-is_some-clause-follows g c = λ i. asks_on _ _ c.args.self.now ask.Finished (record { files = i.files; few = i.few; kept = i.kept }) tt
+
+-- ---- where the statement at hand is to begin
+
+pub returns-in-Start-clause-asks : goal.returns-in-Start-clause-asks
+returns-in-Start-clause-asks g c = λ tells r known.
+    let told = g.F.FileStore.told in
+    let bytes = g.F.FileStore.bytes in
+    let m = c.args.self.now in
+    let looks = looks_by c.args.to_look in
+    let files : Files = files_of (g.D.Disk.held c.args.disk.now) in
+    let after : Files = files_of (g.D.Disk.held c.go.new.disk) in
+    let first : Run = run_at files m Start in
+    let none = not_ended m.state.ending (sym c.is_some.ensures ∙ c.if-is_some.false) in
+    subst (λ (x : Run). IfOk c.go.result (λ ask. IsAsked told bytes after c.go.new.self ask (asked_until looks x))) (some_same first r (sym (at_start told bytes files m c.in-Start.is) ∙ known))
+    (subst (λ (a : Asked). IfOk c.go.result (λ ask. IsAsked told bytes after c.go.new.self ask a)) (sym (asked_start looks first none refl)) (c.go.ensures.asks tells c.in-Start.is))
+
+pub returns-in-Start-clause-follows : goal.returns-in-Start-clause-follows
+returns-in-Start-clause-follows g c = λ i. c.go.ensures.follows c.in-Start.is i
+
+pub returns-in-Start-clause-spends : goal.returns-in-Start-clause-spends
+returns-in-Start-clause-spends g c =
+    let m = c.args.self.now in
+    let statements = length m.deck.statements in
+    let low : m.at.place < statements = omega arith in
+    let none : m.state.ending ≡ None = is_none_by m.state.ending (sym c.is_some.ensures ∙ c.if-is_some.false) in
+    let jobs = jobs_from statements m.at.place in
+    let left : jobs_from statements m.at.place ≡ jobs_left m = sym (from_next statements m.at.place low) ∙ sym (ap (λ s. jobs_at s (length m.state.core.units) + jobs_from statements (m.at.place + 1)) c.in-Start.is) in
+    ok_lives c.go.result m c.go.new.self (jobs_left m) none low (subst (λ n. IfOk c.go.result (λ ask. Spent ask n c.go.new.self)) left c.go.ensures.spends)
+
+pub returns-in-Start-clause-fails : goal.returns-in-Start-clause-fails
+returns-in-Start-clause-fails g c = λ tells r known.
+    let m = c.args.self.now in
+    let files : Files = files_of (g.D.Disk.held c.args.disk.now) in
+    let first : Run = run_at files m Start in
+    let taken = g.W.Sink.taken in
+    on_err_by c.go.result _ _
+    (fails_run _ (g.W.Sink.tells c.args.out.now) (taken c.args.out.now) (taken c.go.new.out) first r m c.go.new.self (some_same first r (sym (at_start g.F.FileStore.told g.F.FileStore.bytes files m c.in-Start.is) ∙ known)))
+    (c.go.ensures.fails tells)
+
+pub go-requires-clause-start : goal.go-requires-clause-start
+go-requires-clause-start g c = c.in-Start.is

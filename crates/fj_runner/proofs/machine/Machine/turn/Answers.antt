@@ -1,10 +1,11 @@
-use Rattle.std.proofs.Common.{◌∷◌, List, drop, refl, sym, ap, subst, ◌∙◌}
+use Rattle.std.proofs.Common.{◌∷◌, ◌+◌, ◌≤◌, List, drop, length, vec_capacity, refl, sym, ap, subst, ◌∙◌}
 use Rattle.fj_plain.specs.State.{Files}
 use Rattle.fj_plain.specs.Statement.{Stated, stated}
 use Rattle.fj_turns.specs.Run.{Run}
 use Rattle.fj_turns.specs.Turns.{Turn, turn, turn_on}
 use Rattle.fj_units.specs.Files.{files_of}
 use Rattle.fj_runner.specs.Machine.{numbered, run_at, run_in, stage_at}
+use Rattle.fj_runner.specs.Room.{looks_left}
 use Rattle.fj_runner.specs.Turned.{IsTurn}
 use Rattle.fj_runner.proofs.AtHand.{deck_back, hand_with}
 use Rattle.fj_runner.proofs.GivingUp.{fails_for, fails_run, fails_turn}
@@ -22,6 +23,7 @@ invariant_of-self g c =
       kinds = c.turn-turned.ensures.steps.kinds ∙ m.kinds;
       hand = may_begun m l c.replace-lined.ensures.item c.number_in_hand-number.result c.number_in_hand-number.ensures c.put_in.new.what c.put_in.ensures c.turn-turned.new.self.stage c.put_back.new.statements deck c.turn-turned.ensures.may;
       refused = m.refused;
+      room = subst (λ sts. length m.looks.items + looks_left (drop m.at.place sts) ≤ vec_capacity m.looks) (sym deck) m.room;
     }
 
 pub invariant_of-self-in-Err-1 : goal.invariant_of-self-in-Err-1
@@ -34,6 +36,7 @@ invariant_of-self-in-Err-1 g c =
       kinds = c.turn-turned.ensures.steps.kinds ∙ m.kinds;
       hand = may_begun m l c.replace-lined.ensures.item c.number_in_hand-number.result c.number_in_hand-number.ensures c.put_in.new.what c.put_in.ensures c.turn-turned.new.self.stage c.put_back.new.statements deck c.turn-turned.ensures.may;
       refused = m.refused;
+      room = subst (λ sts. length m.looks.items + looks_left (drop m.at.place sts) ≤ vec_capacity m.looks) (sym deck) m.room;
     }
 
 pub returns-in-Ok-clause-deck : goal.returns-in-Ok-clause-deck

@@ -1,6 +1,9 @@
-use Rattle.std.proofs.Common.{◌≡◌, true, cond, None, refl, sym, ap, ◌∙◌, arith}
+use Rattle.std.proofs.Common.{◌≡◌, true, cond, None, refl, sym, ap, subst, ◌∙◌, arith}
 use Rattle.fj_plain.specs.State.{Files}
+use Rattle.fj_turns.specs.Turns.{asked}
+use Rattle.fj_looks.proofs.Never.{asked_never}
 use Rattle.fj_units.specs.Files.{files_of}
+use Rattle.fj_runner.specs.Turned.{IsAsked}
 use Rattle.fj_runner.specs.Machine.{run_of}
 use Rattle.fj_runner.specs.Tallying.{owed_at}
 use Rattle.fj_runner.specs.declared.hand.Hand.TheVariants.{Idle}
@@ -51,9 +54,9 @@ returns-clause-asks g c =
       reason = it.reason;
       keeps = it.keeps;
     })
-    (λ r e over. asked_told told bytes count files_after new (g.D.Disk.told disk) (g.D.Disk.told after) (run_of told bytes files m) r c.next_of.result e
+    (λ r e over. asked_told told bytes count files_after new (g.D.Disk.told disk) (g.D.Disk.told after) (run_of told bytes files m) r (asked r) c.next_of.result e
     (λ t. (g.met.D.Disk.decided after).1 (it.leaves.telling.0 ((g.met.D.Disk.decided disk).0 t)))
-    (λ t known. it.asks ((g.met.D.Disk.decided disk).0 t) r known over))
+    (λ t known. subst (IsAsked told bytes files_after new c.next_of.result) (asked_never r) (it.asks ((g.met.D.Disk.decided disk).0 t) r known over)))
 
 pub returns-clause-gives : goal.returns-clause-gives
 returns-clause-gives g c = c.next_of.ensures.gives
