@@ -7,6 +7,7 @@ use Rattle.fj_report.specs.declared.status.Status.{Status}
 use Rattle.fj_job.specs.Answers.{HasRun}
 use Rattle.fj_job.specs.Asking.{IsAsked}
 use Rattle.fj_job.specs.Executing.{IsExecuted}
+use Rattle.fj_job.specs.Reply.{trace_of}
 use Rattle.fj_job.specs.Seen.{Seen, OnDisk, seen, on_disk}
 use Rattle.fj_job.specs.declared.task.Task.{Task}
 use Rattle.fj_job.specs.declared.asked.Asked.TheVariants.{Answered, Deck}
@@ -22,9 +23,9 @@ answered_told task other status source sink disk e asked is same goes_on empty =
 module _ {W D : Type 0} (tells_out : W → Type 0) (taken : W → List ℕ) (count_out : W → ℕ) (tells : D → Type 0) (held : D → Holdings) (count refusals : D → ℕ)
     (task other : Task) (same : task ≡ other) (source : Seen (List ℕ)) (out mid : W) (deck : Decked) (workers : ℕ) (trace : Bool)
     (asked : IsAsked task source (seen tells_out taken count_out out mid) (Deck deck workers trace)) (out' : W) (disk disk' : D) (status : Status)
-    (done : IsExecuted tells_out taken count_out tells held count refusals deck trace mid disk out' disk' status) where
-  from_there : IsExecuted tells_out taken count_out tells held count refusals deck trace out disk out' disk' status
-  from_there = subst (λ (o : W). IsExecuted tells_out taken count_out tells held count refusals deck trace o disk out' disk' status) asked.untold done
+    (done : IsExecuted tells_out taken count_out tells held count refusals deck (trace_of trace) mid disk out' disk' status) where
+  from_there : IsExecuted tells_out taken count_out tells held count refusals deck (trace_of trace) out disk out' disk' status
+  from_there = subst (λ (o : W). IsExecuted tells_out taken count_out tells held count refusals deck (trace_of trace) o disk out' disk' status) asked.untold done
 
   pub executed_told : HasRun other status source (seen tells_out taken count_out out out') (seen tells (on_disk held refusals) count disk disk')
   executed_told =

@@ -1,5 +1,5 @@
 -- A script of runners that is over: its run was cut.
-use Rattle.std.proofs.Common.{◌≡◌, ◌≢◌, ◌⊎◌, ℕ, ◌<◌, Bool, true, false, cond, List, [], ◌∷◌, ◌++◌, Option, Some, None, IsSome, IfSome, refl, sym, ap, ◌∙◌, subst, inl, inr, arith}
+use Rattle.std.proofs.Common.{◌≡◌, ◌≢◌, ◌⊎◌, ℕ, ◌+◌, ◌<◌, Bool, true, false, cond, List, [], ◌∷◌, ◌++◌, Option, Some, None, IsSome, IfSome, refl, sym, ap, ◌∙◌, subst, inl, inr, arith}
 use Rattle.std.proofs.lemmas.Option.{slice_get_within}
 use Rattle.fj_outside.specs.Holdings.{Holdings}
 use Rattle.fj_outside.specs.declared.outside.FileStore.{Ghosts}
@@ -14,7 +14,7 @@ use Rattle.fj_world.specs.declared.ask.Ask.TheVariants.{Submit, Settle, Finished
 use Rattle.fj_world.specs.Alone.{ServedAlone}
 use Rattle.fj_world.specs.Fits.{HasStopped}
 use Rattle.fj_world.specs.Leading.{LeadsTo}
-use Rattle.fj_world.specs.Losing.{before_ask, WasLost, SlotsHold}
+use Rattle.fj_world.specs.Losing.{before_ask, SlotsHold}
 use Rattle.fj_world.specs.Plain.{Plain, PlainSlot, after}
 use Rattle.fj_world.specs.Rack.{Rack}
 use Rattle.fj_world.proofs.Places.{slice_get_in}
@@ -30,6 +30,7 @@ use Rattle.fj_turns.specs.Serving.{over_bays, Shows, run_conduct, desks_of, firs
 use Rattle.fj_turns.proofs.Before.{each_asks}
 use Rattle.fj_turns.proofs.Cutting.{cut_at_stop, world_is_cut}
 use Rattle.fj_turns.proofs.Meant.{cuts_agree}
+use Rattle.fj_looks.specs.Losing.{WasLostIn}
 use Rattle.fj_cut.specs.Others.{Names, names_of, names_in, file_opened}
 use Rattle.fj_cut.specs.Stopping.{WereGiven}
 use Rattle.fj_cut.specs.Turning.{IsUnbegun, TurnLeavesOthers, SubmitLeavesOthers}
@@ -54,12 +55,13 @@ use Rattle.fj_runner.specs.declared.hand.Hand.{Hand}
 use Rattle.fj_runner.specs.declared.hand.Hand.TheVariants.{Idle, Submitting, Settling}
 use Rattle.fj_runner.specs.declared.machine.Machine.{Machine}
 use Rattle.fj_runner.proofs.AtHand.{rest_same}
-use Rattle.fj_job.specs.Carrying.{HasNotBegun}
+use Rattle.fj_runner.proofs.GivingUp.{passes_both}
+use Rattle.fj_job.specs.Carrying.{HasNotBegun, LeavesButDeck}
 use Rattle.fj_job.specs.Cutting.{IsCut}
 use Rattle.fj_job.specs.Fitting.{kept_name, AreOut}
 use Rattle.fj_job.proofs.Cut.{shown, cut_asking, cut_failing}
 use Rattle.fj_job.proofs.Executed.{parts, nothing_written, all_taken, rest_is}
-use Rattle.fj_job.proofs.Leading.{led_to, leaves_same, leaves_on, rose_earlier}
+use Rattle.fj_job.proofs.Leading.{led_to, leaves_same, leaves_on, but_deck, but_on, rose_earlier}
 use Rattle.fj_job.proofs.Holding.{HoldsAt, stop_cause, stop_holds, turn_holds, still_holds, submit_holds}
 use Rattle.fj_job.proofs.Leaving.{one_place, slots_hold, within}
 use Rattle.fj_job.proofs.Whole.{stopped_files}
@@ -149,19 +151,26 @@ module _ {S W D F : Type 0} {ghosts : Ghosts F} (s : Shows S) (tells_out : W →
   all_stay : (a b : S) → LeadsTo s.leads a b → AllStay a b
   all_stay a b many = led_to s.leads AllStay r.stays (λ x over. (refl, refl, refl)) stay_on a b many
 
-  module _ {E J A : Type 0} (meaning : Meaning E J A Bay Job Answer) (deck : Deck) (files : Files) (sound : IsSound deck) (first last : S) (on : tells (disk first))
-      (begun : HasNotBegun told bytes (machine first)) (same : (machine first).deck ≡ deck) (full : StopsFull meaning) where
+  -- The run began with a machine, a sink and a disk, in other stretches; the deck stands as it was put by now.
+  module _ {E J A : Type 0} (meaning : Meaning E J A Bay Job Answer) (deck : Deck) (files : Files) (sound : IsSound deck) (out0 : W) (disk0 : D) (m0 : Machine F ghosts) (on : tells disk0) (begun : HasNotBegun told bytes m0)
+      (first last : S) (far : LeavesButDeck tells_out taken count_out tells count refusals out0 disk0 m0 (out first) (disk first) (machine first)) (same : (machine first).deck ≡ deck) (full : StopsFull meaning) where
+    -- what many calls leave since then
+    since : (x : S) → AllLeave first x → LeavesButDeck tells_out taken count_out tells count refusals out0 disk0 m0 (out x) (disk x) (machine x)
+    since x l =
+        but_on tells_out taken count_out tells count refusals out0 (out first) (out x) disk0 (disk first) (disk x) m0 (machine first) (machine x) far
+        (but_deck tells_out taken count_out tells count refusals (out first) (out x) (disk first) (disk x) (machine first) (machine x) l)
+
     -- the sink took all records that ended, until a call behind which nothing is lost
-    took : (x : S) → AllLeave first x → (machine x).tally.lost ≡ None → tells_out (out first) → taken (out x) ≡ taken (out first) ++ whole_records (machine x).state.core.output
+    took : (x : S) → AllLeave first x → (machine x).tally.lost ≡ None → tells_out out0 → taken (out x) ≡ taken out0 ++ whole_records (machine x).state.core.output
     took x l none t =
-        all_taken (taken (out first)) (taken (out x)) (machine first).state.core.output (machine x).state.core.output (machine x).state.core.output
-        (nothing_written told bytes files (machine first) begun) (l.output t (inl none)) refl
+        all_taken (taken out0) (taken (out x)) m0.state.core.output (machine x).state.core.output (machine x).state.core.output
+        (nothing_written told bytes files m0 begun) ((since x l).output t (inl none)) refl
 
     -- a stop was told
     stopped_cut : (rack : Rack E J A) → AllLeave first last → ServedAlone (over_bays meaning) (run_conduct s) (begins meaning s deck.variables (stated deck.statements) files) last rack
         → (machine last).tally.stopped ≡ true → (machine last).tally.lost ≡ None → (machine last).kept ≡ None
         → ((st : Stated) (more : List Stated) → rest_of (machine last) ≡ st ∷ more → HaveAt (machine last).state.stage (machine last).state.core.names (machine last).state.core.units st.0.what)
-        → IsCut meaning rack (held (disk last)) (refusals (disk first)) (refusals (disk last)) (tells_out (out first)) (taken (out first)) (taken (out last)) deck files (machine last)
+        → IsCut meaning rack (held (disk last)) (refusals disk0) (refusals (disk last)) (tells_out out0) (taken out0) (taken (out last)) deck files (machine last)
     stopped_cut rack l alone stop none nothing have =
         let x : Plain Bay (run_conduct s) = after (over_bays meaning) (run_conduct s) alone.entries (begins meaning s deck.variables (stated deck.statements) files) in
         let it : HasStopped (run_conduct s) x last rack = alone.fits.stop (r.stopped last ∙ stop) in
@@ -181,9 +190,9 @@ module _ {S W D F : Type 0} {ghosts : Ghosts F} (s : Shows S) (tells_out : W →
         elim (each_asks meaning s deck.variables (stated deck.statements) files alone.entries) [
           | inl done ↦ absurd (let z : Settle it.slot ≡ Finished = sym it.hand ∙ done in cc)
           | inr y ↦
-              cut_asking meaning rack (held (disk last)) (refusals (disk first)) (refusals (disk last)) (tells_out (out first)) (taken (out first)) (taken (out last)) deck files (machine last) (l.deck ∙ same) x.script left y both.0
+              cut_asking meaning rack (held (disk last)) (refusals disk0) (refusals (disk last)) (tells_out out0) (taken out0) (taken (out last)) deck files (machine last) (l.deck ∙ same) x.script left y both.0
               (rest_is told bytes left (machine last) x.script is) (took last l none) none
-              (stop_holds meaning rack (held (disk last)) (refusals (disk first)) (refusals (disk last)) deck files (machine last) s x.script both.0 cut
+              (stop_holds meaning rack (held (disk last)) (refusals disk0) (refusals (disk last)) deck files (machine last) s x.script both.0 cut
               (stops_leave_others deck.variables (stated deck.statements) files cut.slot x.script cut.desks cut.stop)
               (given_at meaning rack deck.variables (stated deck.statements) files x.script x.slots sound_slots
               (each_stop_given meaning s deck.variables (stated deck.statements) files alone.entries it.slot it.hand) cut.stop.index cut.stop.rest
@@ -191,7 +200,7 @@ module _ {S W D F : Type 0} {ghosts : Ghosts F} (s : Shows S) (tells_out : W →
               (each_stop_holds meaning s deck.variables (stated deck.statements) files alone.entries it.slot rack it.hand sound_slots stopped))
               (subst (λ (o : Option (Linked F)). AreOut (kept_name o) (machine last).state.core.names (machine last).state.core.units) (sym nothing)
               (stopped_files told bytes left (machine last) x.script is waits spares.names have))
-              (stop_cause meaning rack (held (disk last)) (refusals (disk first)) (refusals (disk last)) deck files (machine last) x.script awaited.stop.index awaited.stop.statement it.slot both.0 awaited.stop.rest
+              (stop_cause meaning rack (held (disk last)) (refusals disk0) (refusals (disk last)) deck files (machine last) x.script awaited.stop.index awaited.stop.statement it.slot both.0 awaited.stop.rest
               (stops_are_awaited deck.variables (stated deck.statements) files it.slot x.script (desks_of meaning x.slots) awaited.stop) stopped
               (λ free. record {
                 slot = it.slot;
@@ -202,21 +211,24 @@ module _ {S W D F : Type 0} {ghosts : Ghosts F} (s : Shows S) (tells_out : W →
               }))
         ]
 
-    module _ (rack : Rack E J A) (w : WasLost (over_bays meaning) (run_conduct s) (first_run deck.variables (stated deck.statements) files) fresh_slots first last rack) where
+    module _ (origin : List Stated) (rack : Rack E J A) (w : WasLostIn meaning s (first_run deck.variables origin files) fresh_slots (stated deck.statements) first last rack) where
       abbrev before : S
-      before = w.call.before
+      before = w.script
 
       abbrev gone : S
-      gone = w.call.gone
+      gone = w.gone
 
       led : AllLeave first before
-      led = all_leave first before w.call.led
+      led = all_leave first before w.led
+
+      far_then : LeavesButDeck tells_out taken count_out tells count refusals out0 disk0 m0 (out before) (disk before) (machine before)
+      far_then = since before led
 
       going : (machine before).tally.over ≡ false
-      going = sym (r.over before) ∙ w.call.going
+      going = sym (r.over before) ∙ w.going
 
       over : (machine gone).tally.over ≡ true
-      over = sym (r.over gone) ∙ w.call.over
+      over = sym (r.over gone) ∙ w.over
 
       abbrev script_then : Run
       script_then = (before_ask (over_bays meaning) (run_conduct s) w.asks (first_run deck.variables (stated deck.statements) files) fresh_slots).0
@@ -225,7 +237,7 @@ module _ {S W D F : Type 0} {ghosts : Ghosts F} (s : Shows S) (tells_out : W →
       slots_then = (before_ask (over_bays meaning) (run_conduct s) w.asks (first_run deck.variables (stated deck.statements) files) fresh_slots).1
 
       abbrev HoldsThen : List Stated → Type 0
-      HoldsThen rest = HoldsAt meaning rack (held (disk gone)) (refusals (disk first)) (refusals (disk gone)) deck files (machine gone) rest
+      HoldsThen rest = HoldsAt meaning rack (held (disk gone)) (refusals disk0) (refusals (disk gone)) deck files (machine gone) rest
 
       -- What it was before the call, where that gave up: it stood at a statement. The slots had the jobs until then.
       record GaveUpAt : Type 0 where
@@ -242,9 +254,9 @@ module _ {S W D F : Type 0} {ghosts : Ghosts F} (s : Shows S) (tells_out : W →
           let given = given_at meaning rack deck.variables (stated deck.statements) files run slots_then w.slots g t.index t.rest
           (within deck.variables t.index (stated deck.statements) (start deck.variables files) (t.statement, t.state) t.cut_is) in
           elim stands [
-            | inl still ↦ still_holds meaning rack (held (disk gone)) (refusals (disk first)) (refusals (disk gone)) deck files (machine gone) run (desks_of meaning slots_then) still t slots given none fit
-            | inr at ↦ turn_holds meaning rack (held (disk gone)) (refusals (disk first)) (refusals (disk gone)) deck files (machine gone) (refusals (disk before)) (refusals (disk gone)) run (desks_of meaning slots_then)
-                (led.own on) (omega arith) at t slots given none fit
+            | inl still ↦ still_holds meaning rack (held (disk gone)) (refusals disk0) (refusals (disk gone)) deck files (machine gone) run (desks_of meaning slots_then) still t slots given none fit
+            | inr at ↦ turn_holds meaning rack (held (disk gone)) (refusals disk0) (refusals (disk gone)) deck files (machine gone) (refusals (disk before)) (refusals (disk gone)) run (desks_of meaning slots_then)
+                (far_then.own on) (omega arith) at t slots given none fit
           ]
 
       abbrev script_at : Plain Bay (run_conduct s)
@@ -254,7 +266,7 @@ module _ {S W D F : Type 0} {ghosts : Ghosts F} (s : Shows S) (tells_out : W →
       heard_holds : (rest : List Stated) → rest_of (machine gone) ≡ rest → s.state before ≡ Some script_at.script → script_at.hand ≢ Finished → IsDueAsk (due_of (machine before).tally.hand) script_at.hand
           → (machine gone).tally.stopped ≡ false → HoldsThen rest
       heard_holds rest place state some due stop =
-          submit_holds meaning rack (held (disk gone)) (refusals (disk first)) (refusals (disk gone)) deck files (machine gone) rest script_at.script (desks_of meaning slots_then)
+          submit_holds meaning rack (held (disk gone)) (refusals disk0) (refusals (disk gone)) deck files (machine gone) rest script_at.script (desks_of meaning slots_then)
           run_rest units (ap (λ (d : D). files_of (held d)) (it.same_disk asks) ∙ ap (λ (k : Core). k.files) (sym core)) t
           (slots_hold meaning slots_then rack w.slots)
           (given_at meaning rack deck.variables (stated deck.statements) files script_at.script slots_then w.slots
@@ -263,7 +275,7 @@ module _ {S W D F : Type 0} {ghosts : Ghosts F} (s : Shows S) (tells_out : W →
           (each_submit_holds meaning s deck.variables (stated deck.statements) files w.asks job.0 job.1 rack job.2 w.slots)
         where
           it : FailsAsking (disk before) (disk gone) (machine before) (machine gone)
-          it = r.asking before gone w.call.leads
+          it = r.asking before gone w.leads
 
           asks : (machine before).tally.hand ≢ Idle
           asks = hand_asks (machine before).tally.hand script_at.hand some due
@@ -285,7 +297,7 @@ module _ {S W D F : Type 0} {ghosts : Ghosts F} (s : Shows S) (tells_out : W →
 
           -- the statement at hand stays
           stays : rest_of (machine gone) ≡ rest_of (machine before)
-          stays = rest_same (machine before) (machine gone) (r.leaves before gone w.call.leads).deck (it.at asks)
+          stays = rest_same (machine before) (machine gone) (r.leaves before gone w.leads).deck (it.at asks)
 
           run_rest : rest ≡ script_at.script.rest
           run_rest = sym place ∙ stays ∙ sym (rest_is told bytes left (machine before) script_at.script is)
@@ -302,32 +314,33 @@ module _ {S W D F : Type 0} {ghosts : Ghosts F} (s : Shows S) (tells_out : W →
               let same : ◌≡◌ {A = Stated × State} (here.statement, cut.state) (t.statement, t.state) =
               one_place deck.variables (stated deck.statements) (start deck.variables files) here.index t.index (here.statement, cut.state) (t.statement, t.state) cut.cut_is t.cut_is (sym here.rest ∙ t.rest) in
               let kept = subst (λ (l : List Stated). HaveKept (kept_name (machine gone).kept) (machine gone).state.core.names (machine gone).state.core.units l)
-              (place ∙ run_rest ∙ here.here ∙ ap (λ (y : Stated × State). y.0 ∷ here.behind) same) ((r.keeps before gone w.call.leads).given_up going over stop) in
+              (place ∙ run_rest ∙ here.here ∙ ap (λ (y : Stated × State). y.0 ∷ here.behind) same) ((r.keeps before gone w.leads).given_up going over stop) in
               opens_kept (machine gone).kept (machine gone).state.core.names (machine gone).state.core.units script_at.script.core.units (names_in t.state.units) t.statement here.behind kept units t.opens
 
       gave_up : (machine gone).tally.stopped ≡ false → IsLoss (machine gone).tally.lost → GaveUpAt
       gave_up stop loss =
-          elim w.call.stood [
+          elim w.stood [
             | inl (asked, state, due) ↦
-                let f = r.gives_up before gone w.call.leads script_then state going over stop in
-                let x = learns_before meaning s deck.variables (stated deck.statements) files (ends_so deck sound) (some_statement deck sound) w.asks f.count f.run asked f.passed in
+                let f = r.gives_up before gone w.leads w.at state going over stop in
+                let passed = passes_both w.count f.count script_then w.at f.run w.passed f.passed in
+                let x = learns_before meaning s deck.variables (stated deck.statements) files (ends_so deck sound) (some_statement deck sound) w.asks (w.count + f.count) f.run asked passed in
                 let idle = hand_idle (machine before).tally.hand (sym (r.due before) ∙ due) in
                 let at = at_before meaning s deck.variables (stated deck.statements) files (ends_so deck sound) (some_statement deck sound) w.asks asked in
                 record {
-                  at = script_then;
+                  at = w.at;
                   call = f;
                   learns = x;
-                  holds = elim (each_turn meaning s deck.variables (stated deck.statements) files w.asks f.count f.run at.going f.passed) [
+                  holds = elim (each_turn meaning s deck.variables (stated deck.statements) files w.asks (w.count + f.count) f.run at.going passed) [
                     | inl none ↦ absurd (none_left deck.variables (stated deck.statements) (fresh deck.variables files) f.run x none)
-                    | inr t ↦ elim (each_turn_given meaning s deck.variables (stated deck.statements) files w.asks f.count f.run at.going f.passed) [
+                    | inr t ↦ elim (each_turn_given meaning s deck.variables (stated deck.statements) files w.asks (w.count + f.count) f.run at.going passed) [
                       | inl none ↦ absurd (none_left deck.variables (stated deck.statements) (fresh deck.variables files) f.run x none)
-                      | inr g ↦ asked_holds f.run t g ((r.keeps before gone w.call.leads).asked going idle)
-                          (each_turn_holds meaning s deck.variables (stated deck.statements) files w.asks f.count f.run rack at.going f.passed w.slots) (f.fits idle (loss_fits (machine gone).tally.lost loss))
+                      | inr g ↦ asked_holds f.run t g ((r.keeps before gone w.leads).asked going idle)
+                          (each_turn_holds meaning s deck.variables (stated deck.statements) files w.asks (w.count + f.count) f.run rack at.going passed w.slots) (f.fits idle (loss_fits (machine gone).tally.lost loss))
                     ]
                   ];
                 }
             | inr (hand, state, due) ↦
-                let f = r.gives_up before gone w.call.leads script_at.script state going over stop in
+                let f = r.gives_up before gone w.leads script_at.script state going over stop in
                 record {
                   at = script_at.script;
                   call = f;
@@ -337,42 +350,45 @@ module _ {S W D F : Type 0} {ghosts : Ghosts F} (s : Shows S) (tells_out : W →
           ]
 
       failed_cut : (machine gone).tally.stopped ≡ false → IsLoss (machine gone).tally.lost
-          → IsCut meaning rack (held (disk gone)) (refusals (disk first)) (refusals (disk gone)) (tells_out (out first)) (taken (out first)) (taken (out gone)) deck files (machine gone)
+          → IsCut meaning rack (held (disk gone)) (refusals disk0) (refusals (disk gone)) (tells_out out0) (taken out0) (taken (out gone)) deck files (machine gone)
       failed_cut stop loss =
           let g = gave_up stop loss in
-          cut_failing meaning rack (held (disk gone)) (refusals (disk first)) (refusals (disk gone)) (tells_out (out first)) (taken (out first)) (taken (out gone)) deck files (machine gone)
-          ((r.leaves before gone w.call.leads).deck ∙ led.deck ∙ same) (taken (out before)) (machine before) (refusals (disk before)) (refusals (disk gone)) (tells_out (out before)) led.telling_out.0
-          (took before led (none_lost (machine before).tally.lost (machine before).tally.over (machine before).tally.lost_over going)) (rose_earlier _ _ _ (led.own on)) g.at g.call g.learns (loss_not (machine gone).tally.lost loss)
-          g.holds (kept_out (machine gone).kept (machine gone).state.core.names (machine gone).state.core.units (rest_of (machine gone)) ((r.keeps before gone w.call.leads).given_up going over stop))
+          cut_failing meaning rack (held (disk gone)) (refusals disk0) (refusals (disk gone)) (tells_out out0) (taken out0) (taken (out gone)) deck files (machine gone)
+          ((r.leaves before gone w.leads).deck ∙ led.deck ∙ same) (taken (out before)) (machine before) (refusals (disk before)) (refusals (disk gone)) (tells_out (out before)) far_then.telling_out.0
+          (took before led (none_lost (machine before).tally.lost (machine before).tally.over (machine before).tally.lost_over going)) (rose_earlier _ _ _ (far_then.own on)) g.at g.call g.learns (loss_not (machine gone).tally.lost loss)
+          g.holds (kept_out (machine gone).kept (machine gone).state.core.names (machine gone).state.core.units (rest_of (machine gone)) ((r.keeps before gone w.leads).given_up going over stop))
 
       all_led : AllLeave first last
       all_led =
           leaves_on tells_out taken count_out tells count refusals (out first) (out before) (out last) (disk first) (disk before) (disk last) (machine first) (machine before) (machine last) led
           (leaves_on tells_out taken count_out tells count refusals (out before) (out gone) (out last) (disk before) (disk gone) (disk last) (machine before) (machine gone) (machine last)
-          (r.leaves before gone w.call.leads) (all_leave gone last w.call.rests))
+          (r.leaves before gone w.leads) (all_leave gone last w.rests))
 
-      pub is_cut : ServedAlone (over_bays meaning) (run_conduct s) (begins meaning s deck.variables (stated deck.statements) files) last rack
-          → IsCut meaning rack (held (disk last)) (refusals (disk first)) (refusals (disk last)) (tells_out (out first)) (taken (out first)) (taken (out last)) deck files (machine last)
+      pub is_cut : ((machine last).tally.stopped ≡ true → ServedAlone (over_bays meaning) (run_conduct s) (begins meaning s deck.variables (stated deck.statements) files) last rack)
+          → IsCut meaning rack (held (disk last)) (refusals disk0) (refusals (disk last)) (tells_out out0) (taken out0) (taken (out last)) deck files (machine last)
       is_cut alone =
-          let still = all_stay gone last w.call.rests over in
-          elim (r.reason before gone w.call.leads going over) [
+          let still = all_stay gone last w.rests over in
+          elim (r.reason before gone w.leads going over) [
             | inl (stop, none) ↦
-                let k = r.keeps before gone w.call.leads in
-                stopped_cut rack all_led alone (ap (λ (m : Machine F ghosts). m.tally.stopped) still.0 ∙ stop) (ap (λ (m : Machine F ghosts). m.tally.lost) still.0 ∙ none)
+                let k = r.keeps before gone w.leads in
+                let told_stop = ap (λ (m : Machine F ghosts). m.tally.stopped) still.0 ∙ stop in
+                stopped_cut rack all_led (alone told_stop) told_stop (ap (λ (m : Machine F ghosts). m.tally.lost) still.0 ∙ none)
                 (ap (λ (m : Machine F ghosts). m.kept) still.0 ∙ k.none going stop)
                 (subst (λ (m : Machine F ghosts). (st : Stated) (more : List Stated) → rest_of m ≡ st ∷ more → HaveAt m.state.stage m.state.core.names m.state.core.units st.0.what) (sym still.0) (k.stopped going stop))
             | inr (stop, loss) ↦
-                subst (λ (d : D). IsCut meaning rack (held d) (refusals (disk first)) (refusals d) (tells_out (out first)) (taken (out first)) (taken (out last)) deck files (machine last)) (sym still.2)
-                (subst (λ n. IsCut meaning rack (held (disk gone)) (refusals (disk first)) (refusals (disk gone)) (tells_out (out first)) (taken (out first)) n deck files (machine last)) (sym still.1)
-                (subst (λ (m : Machine F ghosts). IsCut meaning rack (held (disk gone)) (refusals (disk first)) (refusals (disk gone)) (tells_out (out first)) (taken (out first)) (taken (out gone)) deck files m) (sym still.0) (failed_cut stop loss)))
+                subst (λ (d : D). IsCut meaning rack (held d) (refusals disk0) (refusals d) (tells_out out0) (taken out0) (taken (out last)) deck files (machine last)) (sym still.2)
+                (subst (λ n. IsCut meaning rack (held (disk gone)) (refusals disk0) (refusals (disk gone)) (tells_out out0) (taken out0) n deck files (machine last)) (sym still.1)
+                (subst (λ (m : Machine F ghosts). IsCut meaning rack (held (disk gone)) (refusals disk0) (refusals (disk gone)) (tells_out out0) (taken out0) (taken (out gone)) deck files m) (sym still.0) (failed_cut stop loss)))
           ]
 
--- A script that was served until it was over: its run was cut.
+-- A script that was served until it was over, in the last stretch of a run, with the deck as it stands then: that run was cut.
 pub run_cut : {S W D F E J A : Type 0} {ghosts : Ghosts F} (meaning : Meaning E J A Bay Job Answer) (s : Shows S) (tells_out : W → Type 0) (taken : W → List ℕ) (count_out : W → ℕ) (tells : D → Type 0) (count refusals : D → ℕ)
-    (disk_told : D → Bool) (held : D → Holdings) (told : F → Bool) (bytes : F → List ℕ) (out : S → W) (disk : S → D) (machine : S → Machine F ghosts) (deck : Deck) (files : Files) (first last : S) (rack : Rack E J A)
-    → ServedAlone (over_bays meaning) (run_conduct s) (begins meaning s deck.variables (stated deck.statements) files) last rack
-    → WasLost (over_bays meaning) (run_conduct s) (first_run deck.variables (stated deck.statements) files) fresh_slots first last rack
-    → IsRunner s tells_out taken count_out tells count refusals disk_told held told bytes out disk machine → IsSound deck → HasNotBegun told bytes (machine first) → (machine first).deck ≡ deck → tells (disk first) → StopsFull meaning
-    → IsCut meaning rack (held (disk last)) (refusals (disk first)) (refusals (disk last)) (tells_out (out first)) (taken (out first)) (taken (out last)) deck files (machine last)
-run_cut meaning s tells_out taken count_out tells count refusals disk_told held told bytes out disk machine deck files first last rack alone lost runner sound begun same on full =
-    is_cut s tells_out taken count_out tells count refusals disk_told held told bytes out disk machine runner meaning deck files sound first last on begun same full rack lost alone
+    (disk_told : D → Bool) (held : D → Holdings) (told : F → Bool) (bytes : F → List ℕ) (out : S → W) (disk : S → D) (machine : S → Machine F ghosts) (deck : Deck) (files : Files) (out0 : W) (disk0 : D) (m0 : Machine F ghosts)
+    (origin : List Stated) (first last : S) (rack : Rack E J A)
+    → ((machine last).tally.stopped ≡ true → ServedAlone (over_bays meaning) (run_conduct s) (begins meaning s deck.variables (stated deck.statements) files) last rack)
+    → WasLostIn meaning s (first_run deck.variables origin files) fresh_slots (stated deck.statements) first last rack
+    → IsRunner s tells_out taken count_out tells count refusals disk_told held told bytes out disk machine → IsSound deck → HasNotBegun told bytes m0
+    → LeavesButDeck tells_out taken count_out tells count refusals out0 disk0 m0 (out first) (disk first) (machine first) → (machine first).deck ≡ deck → tells disk0 → StopsFull meaning
+    → IsCut meaning rack (held (disk last)) (refusals disk0) (refusals (disk last)) (tells_out out0) (taken out0) (taken (out last)) deck files (machine last)
+run_cut meaning s tells_out taken count_out tells count refusals disk_told held told bytes out disk machine deck files out0 disk0 m0 origin first last rack alone lost runner sound begun far same on full =
+    is_cut s tells_out taken count_out tells count refusals disk_told held told bytes out disk machine runner meaning deck files sound out0 disk0 m0 on begun first last far same full origin rack lost alone

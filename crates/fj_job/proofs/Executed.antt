@@ -40,7 +40,7 @@ use Rattle.fj_job.proofs.Closed.{IsClosed, outputs_are_closed}
 use Rattle.fj_job.proofs.Leaving.{one_index}
 use Rattle.fj_job.specs.Concluding.{HasEnded, IsReplied, IsResult, run_text}
 use Rattle.fj_job.specs.Making.{HasMade, IsMadeReplied, made_text}
-use Rattle.fj_job.specs.Reply.{open_feed, report_of, made_lines, made_report, no_files, files_in}
+use Rattle.fj_job.specs.Reply.{open_feed, report_of, made_lines, made_report, no_files, files_in, Lines}
 
 -- ---- what was written
 
@@ -173,13 +173,13 @@ module _ {F : Type 0} (r : Result) (closed : IsClosed r.output) (now : Files) (l
   ends_by ending e = is.ending ∙ ap (λ o. option_map ending_of o) e
 
   -- the output with the lines behind it, where these are given by what is left
-  behind : (lines : List ℕ) → r.output.text ++ (open_feed r.output ++ lines) ≡ whole_records l.core.output ++ (open_record l.core.output ++ lines)
-  behind lines =
+  behind : (text : List ℕ) → r.output.text ++ (open_feed r.output ++ text) ≡ whole_records l.core.output ++ (open_record l.core.output ++ text)
+  behind text =
       let o : Output = l.core.output in
-      rw is.output (sym (whole_and_open o.text o.begun o.is_open lines (subst (λ (x : Output). IsClosed x) is.output closed)))
+      rw is.output (sym (whole_and_open o.text o.begun o.is_open text (subst (λ (x : Output). IsClosed x) is.output closed)))
 
-  report_by : (trace : Bool) (e : Ending) → report_of l.deck trace r e ≡ whole_records l.core.output ++ (open_record l.core.output ++ run_text l.deck.variables trace e l.core)
-  report_by trace e = behind _ ∙ ap (λ t. whole_records l.core.output ++ (open_record l.core.output ++ t)) (rw (is.tells, is.vars) refl)
+  report_by : (lines : Lines) (e : Ending) → report_of l.deck lines r e ≡ whole_records l.core.output ++ (open_record l.core.output ++ run_text l.deck.variables lines e l.core)
+  report_by lines e = behind _ ∙ ap (λ t. whole_records l.core.output ++ (open_record l.core.output ++ t)) (rw (is.tells, is.vars) refl)
 
   lines_by : (seed count : ℕ) (e : Ending) → made_lines seed count l.deck r e ≡ made_text seed count e l now
   lines_by seed count ended = rw (is.tells, is.files) refl
@@ -193,14 +193,14 @@ module _ {F : Type 0} (r : Result) (closed : IsClosed r.output) (now : Files) (l
 pub taken_both : (old middle new first then : List ℕ) → middle ≡ old ++ first → new ≡ middle ++ then → new ≡ old ++ (first ++ then)
 taken_both old middle new first then one two = two ∙ ap (λ x. x ++ then) one ∙ append_assoc old first then
 
-replies_own : {F : Type 0} (trace : Bool) (l : Left F) (before now : Held) (status : Status) (Tells Now : Type 0) (old middle new : List ℕ) → (Tells → Now)
-    → IsResult (plain_execution l.deck.variables l.deck.statements (files_in before)) (files_in now) l → HasEnded trace l status Now middle new
-    → (Tells → middle ≡ old ++ whole_records l.core.output) → IsReplied l.deck trace before status now (λ output. Tells → new ≡ old ++ output)
-replies_own trace l before now status Tells Now old middle new on is h one =
+replies_own : {F : Type 0} (lines : Lines) (l : Left F) (before now : Held) (status : Status) (Tells Now : Type 0) (old middle new : List ℕ) → (Tells → Now)
+    → IsResult (plain_execution l.deck.variables l.deck.statements (files_in before)) (files_in now) l → HasEnded lines l status Now middle new
+    → (Tells → middle ≡ old ++ whole_records l.core.output) → IsReplied l.deck lines before status now (λ output. Tells → new ≡ old ++ output)
+replies_own lines l before now status Tells Now old middle new on is h one =
     let r : Result = plain_execution l.deck.variables l.deck.statements (files_in before) in
     let closed : IsClosed r.output = outputs_are_closed l.deck.variables l.deck.statements (files_in before) in
     record {
-      reply = record { status = status; output = report_of l.deck trace r (ending_of h.ending); files = r.files };
+      reply = record { status = status; output = report_of l.deck lines r (ending_of h.ending); files = r.files };
       is = record {
         ending = ending_of h.ending;
         ends = ends_by r closed (files_in now) l is h.ending h.ends;
@@ -210,16 +210,16 @@ replies_own trace l before now status Tells Now old middle new on is h one =
       };
       answer = refl;
       files_left = sym is.files;
-      output = λ t. taken_both old middle new _ _ (one t) (h.output (on t)) ∙ ap (λ x. old ++ x) (sym (report_by r closed (files_in now) l is trace (ending_of h.ending)));
+      output = λ t. taken_both old middle new _ _ (one t) (h.output (on t)) ∙ ap (λ x. old ++ x) (sym (report_by r closed (files_in now) l is lines (ending_of h.ending)));
     }
 
 -- what was left is the reply to the deck, where it ended
-pub replies : {F : Type 0} (deck : Deck) (trace : Bool) (l : Left F) (before now : Held) (status : Status) (Tells Now : Type 0) (old middle new : List ℕ) → (Tells → Now) → l.deck ≡ deck
-    → IsResult (plain_execution deck.variables deck.statements (files_in before)) (files_in now) l → HasEnded trace l status Now middle new
-    → (Tells → middle ≡ old ++ whole_records l.core.output) → IsReplied deck trace before status now (λ output. Tells → new ≡ old ++ output)
-replies deck trace l before now status Tells Now old middle new on e is h one =
-    subst (λ (d : Deck). IsReplied d trace before status now (λ output. Tells → new ≡ old ++ output)) e
-    (replies_own trace l before now status Tells Now old middle new on (subst (λ (d : Deck). IsResult (plain_execution d.variables d.statements (files_in before)) (files_in now) l) (sym e) is) h one)
+pub replies : {F : Type 0} (deck : Deck) (lines : Lines) (l : Left F) (before now : Held) (status : Status) (Tells Now : Type 0) (old middle new : List ℕ) → (Tells → Now) → l.deck ≡ deck
+    → IsResult (plain_execution deck.variables deck.statements (files_in before)) (files_in now) l → HasEnded lines l status Now middle new
+    → (Tells → middle ≡ old ++ whole_records l.core.output) → IsReplied deck lines before status now (λ output. Tells → new ≡ old ++ output)
+replies deck lines l before now status Tells Now old middle new on e is h one =
+    subst (λ (d : Deck). IsReplied d lines before status now (λ output. Tells → new ≡ old ++ output)) e
+    (replies_own lines l before now status Tells Now old middle new on (subst (λ (d : Deck). IsResult (plain_execution d.variables d.statements (files_in before)) (files_in now) l) (sym e) is) h one)
 
 makes_own : {F : Type 0} (seed count : ℕ) (l : Left F) (files now : Files) (status : Status) (Tells Now : Type 0) (old middle new : List ℕ) → (Tells → Now)
     → IsResult (plain_execution l.deck.variables l.deck.statements no_files) now l → HasMade seed count l now status Now middle new

@@ -1,5 +1,5 @@
 -- A fault names one statement.
-use Rattle.std.proofs.Common.{◌≡◌, ◌≢◌, ◌⊎◌, ◌↔◌, inl, inr, ℕ, zero, suc, ◌<◌, Bool, true, false, List, [], ◌∷◌, ◌++◌, length, length-append, append_assoc, Option, Some, None, IsSome, slice_get, refl, sym, ap, ◌∙◌, subst, arith}
+use Rattle.std.proofs.Common.{◌≡◌, ◌≢◌, ◌⊎◌, ◌↔◌, inl, inr, ℕ, zero, suc, ◌<◌, true, false, List, [], ◌∷◌, ◌++◌, length, length-append, append_assoc, Option, Some, None, IsSome, slice_get, refl, sym, ap, ◌∙◌, subst, arith}
 use Rattle.fj_statement.specs.Sound.{AreRising}
 use Rattle.fj_statement.specs.declared.deck.Variable.{Variable}
 use Rattle.fj_statement.specs.declared.deck.Lined.{Lined}
@@ -10,6 +10,7 @@ use Rattle.fj_plain.specs.Statement.{Stated, begun_in, stated, step, Ending, cut
 use Rattle.fj_items.specs.Handing.{whole_records}
 use Rattle.fj_job.specs.Cut.{Reach, Untold, Told, Carried, reached, MayReach, ComesTo, IsNext, TookBehind}
 use Rattle.fj_job.specs.Faulting.{LinesNameStatements, TookThrough, WriteFaultsAreFirst, OneWriteFault}
+use Rattle.fj_job.specs.Reply.{Lines}
 use Rattle.fj_turns.proofs.Slots.{same_some}
 use Rattle.fj_job.proofs.Closed.{Follows, follows_on, records_follow}
 use Rattle.fj_job.proofs.CutTexts.{cut_by, cut_follows, reached_follows, at_hand}
@@ -82,7 +83,7 @@ not_through old new first part (x ∷ rest) due more some is a b =
       length-append part (x ∷ rest),
     )
 
-module _ (deck : Deck) (trace : Bool) (files : Files) (old new : List ℕ) where
+module _ (deck : Deck) (lines : Lines) (files : Files) (old new : List ℕ) where
   -- all records of the statements before
   took_before : (reach : Reach) (comes other : ComesTo deck files) (part : List ℕ) → new ≡ old ++ (whole_records (reached reach deck.variables comes.statement comes.before).output ++ part)
       → other.index < comes.index → TookThrough old new deck files other
@@ -93,7 +94,7 @@ module _ (deck : Deck) (trace : Bool) (files : Files) (old new : List ℕ) where
         took ∙ ap (λ w. old ++ (w ++ part)) more.1 ∙ ap (λ w. old ++ w) (append_assoc (whole_records (step deck.variables other.statement other.before).0.output) more.0 part),
       )
 
-  fails_there : (reach : Reach) (comes : ComesTo deck files) (due : List ℕ) → MayReach reach deck.variables comes.statement comes.before → IsNext reach deck trace files comes due
+  fails_there : (reach : Reach) (comes : ComesTo deck files) (due : List ℕ) → MayReach reach deck.variables comes.statement comes.before → IsNext reach deck lines files comes due
       → TookBehind old new (whole_records (reached reach deck.variables comes.statement comes.before).output) due
       → ((reach ≢ Carried) × (TookThrough old new deck files comes → ⊥)) ⊎ ((reach ≡ Carried) × TookThrough old new deck files comes × IsSome (step deck.variables comes.statement comes.before).1)
   fails_there Untold comes due may next (part, rest, some, is, took) =
@@ -103,10 +104,10 @@ module _ (deck : Deck) (trace : Bool) (files : Files) (old new : List ℕ) where
   fails_there Carried comes due may next (part, rest, some, is, took) = inr (refl, (part, took), may)
 
 pub faults_are_first : WriteFaultsAreFirst
-faults_are_first deck trace files old new left before now fault =
+faults_are_first deck lines files old new left before now fault =
     let took = fault.taken tt in (
-      (λ comes low. took_before deck trace files old new fault.reach fault.comes comes took.0 took.4 low),
-      fails_there deck trace files old new fault.reach fault.comes fault.due fault.may fault.next took,
+      (λ comes low. took_before deck lines files old new fault.reach fault.comes comes took.0 took.4 low),
+      fails_there deck lines files old new fault.reach fault.comes fault.due fault.may fault.next took,
     )
 
 -- ---- one fault
@@ -147,9 +148,9 @@ module _ (deck : Deck) (files : Files) (old new : List ℕ) where
       subst (λ y. (more : List ℕ) × (new ≡ old ++ (whole_records (step deck.variables y.0 y.1).0.output ++ more))) same took
 
 pub one_fault : OneWriteFault
-one_fault deck trace files old new left left' before now before' now' fault other =
-    let a = faults_are_first deck trace files old new left before now fault in
-    let b = faults_are_first deck trace files old new left' before' now' other in
+one_fault deck lines files old new left left' before now before' now' fault other =
+    let a = faults_are_first deck lines files old new left before now fault in
+    let b = faults_are_first deck lines files old new left' before' now' other in
     elim (three fault.comes.index other.comes.index) [
       | inl low ↦ absurd (not_before deck files old new fault.comes other.comes (fault.reach ≡ Carried) a.1 (b.0 fault.comes low) low)
       | inr (inl same) ↦ (

@@ -11,6 +11,7 @@ use Rattle.fj_world.specs.Leading.{Led, LeadsTo}
 use Rattle.fj_runner.specs.Leaving.{Leaves}
 use Rattle.fj_runner.specs.Taking.{TakesMore}
 use Rattle.fj_runner.specs.declared.machine.Machine.{Machine}
+use Rattle.fj_job.specs.Carrying.{LeavesButDeck}
 
 -- ---- a relation that composes
 
@@ -68,11 +69,26 @@ module _ {W D F : Type 0} {ghosts : Ghosts F} (tells_out : W → Type 0) (taken 
     of_sink = λ e. inl e;
     first = λ s. refl;
     deck = refl;
+    looks = refl;
   }
 
-  pub leaves_on : (w w' w'' : W) (d d' d'' : D) (m m' m'' : Machine F ghosts) → Leaves tells_out taken count_out tells count refusals w d m w' d' m'
-      → Leaves tells_out taken count_out tells count refusals w' d' m' w'' d'' m'' → Leaves tells_out taken count_out tells count refusals w d m w'' d'' m''
-  leaves_on w w' w'' d d' d'' m m' m'' a b = record {
+  pub but_deck : (w w' : W) (d d' : D) (m m' : Machine F ghosts) → Leaves tells_out taken count_out tells count refusals w d m w' d' m' → LeavesButDeck tells_out taken count_out tells count refusals w d m w' d' m'
+  but_deck w w' d d' m m' l = record {
+    telling = l.telling;
+    later = l.later;
+    own = l.own;
+    telling_out = l.telling_out;
+    later_out = l.later_out;
+    output = l.output;
+    front = l.front;
+    of_disk = l.of_disk;
+    of_sink = l.of_sink;
+    first = l.first;
+  }
+
+  pub but_on : (w w' w'' : W) (d d' d'' : D) (m m' m'' : Machine F ghosts) → LeavesButDeck tells_out taken count_out tells count refusals w d m w' d' m'
+      → LeavesButDeck tells_out taken count_out tells count refusals w' d' m' w'' d'' m'' → LeavesButDeck tells_out taken count_out tells count refusals w d m w'' d'' m''
+  but_on w w' w'' d d' d'' m m' m'' a b = record {
     telling = ((λ t. b.telling.0 (a.telling.0 t)), (λ t. a.telling.1 (b.telling.1 t)));
     later = let x = a.later in let y = b.later in omega (arith, x, y);
     own = λ t. let x = a.own t in let y = b.own (a.telling.0 t) in omega (arith, x, y);
@@ -83,8 +99,26 @@ module _ {W D F : Type 0} {ghosts : Ghosts F} (tells_out : W → Type 0) (taken 
     of_disk = λ e. cause_on _ _ _ _ _ a.later b.later a.of_disk (b.of_disk e);
     of_sink = λ e. cause_on _ _ _ _ _ a.later_out b.later_out a.of_sink (b.of_sink e);
     first = first_on _ _ _ a.first b.first;
-    deck = b.deck ∙ a.deck;
   }
+
+  pub leaves_on : (w w' w'' : W) (d d' d'' : D) (m m' m'' : Machine F ghosts) → Leaves tells_out taken count_out tells count refusals w d m w' d' m'
+      → Leaves tells_out taken count_out tells count refusals w' d' m' w'' d'' m'' → Leaves tells_out taken count_out tells count refusals w d m w'' d'' m''
+  leaves_on w w' w'' d d' d'' m m' m'' a b =
+      let l = but_on w w' w'' d d' d'' m m' m'' (but_deck w w' d d' m m' a) (but_deck w' w'' d' d'' m' m'' b) in
+      record {
+        telling = l.telling;
+        later = l.later;
+        own = l.own;
+        telling_out = l.telling_out;
+        later_out = l.later_out;
+        output = l.output;
+        front = l.front;
+        of_disk = l.of_disk;
+        of_sink = l.of_sink;
+        first = l.first;
+        deck = b.deck ∙ a.deck;
+        looks = b.looks ∙ a.looks;
+      }
 
 -- a cause that was there before, or came behind it
 pub rose_of : (P : Type 0) (a b c : ℕ) → a ≤ b → b ≤ c → (P → Rose a b) → P ⊎ Rose b c → Rose a c

@@ -8,7 +8,7 @@ pub mod Closed
 pub mod Settling
 pub mod Returning
 pub mod MadeReplies
-pub mod Carried
+pub mod Served
 pub mod Whole
 pub mod CarriedOut
 pub mod Passes

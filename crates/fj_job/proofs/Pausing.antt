@@ -10,7 +10,7 @@ use Rattle.fj_turns.specs.Run.{Run, Stage, Start, Waiting, Acting, Awaiting}
 use Rattle.fj_turns.specs.Turns.{Turn, Pauses, Passes, Stops, Asked, finish_by, with_core, with_iostat, turn_act, with_tells, doing_told, wait_by, waited_now, unsettled, start_by, rule_of, begun_for, with_hand, turn_start, turn, goes, by_turn, asked_on, asked}
 use Rattle.fj_turns.specs.Passing.{passed_by, passed_on, passes}
 use Rattle.fj_runner.proofs.GivingUp.{passes_both, passes_one}
-use Rattle.fj_runner.proofs.NextAsks.{goes_turn}
+use Rattle.fj_turns.proofs.Decks.{goes_is_turn}
 
 -- as many statements are left, and it passes at the start of a statement
 abbrev KeepsRest : ℕ → Turn → Type 0
@@ -68,7 +68,7 @@ goes_pauses [] r s n = absurd (n refl)
 goes_pauses (st ∷ more) r s n =
     let run : Run = record r { rest = st ∷ more } in
     let at : turn st run.stage run ≡ turn_start st run = ap (λ x. turn st x run) s in
-    let e = goes_turn st more r in
+    let e = goes_is_turn st more r in
     subst (λ a. PausesAt run a) (sym e)
     (turn_pauses st more run (turn_start st run) refl at (subst (λ t. KeepsRest (length run.rest) t) at (turn_keeps st more run.stage run refl)) (goes_pauses more) (subst (λ (a : Asked). a.ask ≢ Finished) e n))
 

@@ -1,5 +1,5 @@
 -- What is replied to a text that was read.
-use Rattle.std.proofs.Common.{◌≡◌, ◌⊎◌, inl, inr, ℕ, ◌<◌, Bool, true, false, List, length, Ok, Err, unwrap_or, refl, ap, sym, ◌∙◌, subst, arith}
+use Rattle.std.proofs.Common.{◌≡◌, ◌⊎◌, inl, inr, ℕ, ◌<◌, true, false, List, length, Ok, Err, unwrap_or, refl, ap, sym, ◌∙◌, subst, arith}
 use Rattle.fj_outside.specs.Holdings.{Files as Held}
 use Rattle.fj_statement.specs.declared.deck.Deck.{Deck}
 use Rattle.fj_statement.specs.declared.reason.Reason.{Reason}
@@ -11,7 +11,7 @@ use Rattle.fj_gen.specs.Generated.{generated_text}
 use Rattle.fj_report.specs.declared.status.Status.{Status}
 use Rattle.fj_report.specs.declared.status.Status.TheVariants.{Ended, ErrorStop, Prohibited, DeckRefused, Usage, ReadFault, WriteFault, DiskFault, Memory}
 use Rattle.fj_job.specs.Answers.{Replied, IfEnded, IfRefused, IsLost, IsSomeDeck, HasDeck}
-use Rattle.fj_job.specs.Reply.{Reply, Reading, IsReading, IsReplyTo, IsRefusal, IsExecuted, IsRunReply, IsMade, IsMadeReply, OneReply, checked, status_of, report_of, made_report, no_files}
+use Rattle.fj_job.specs.Reply.{Reply, Reading, IsReading, IsReplyTo, IsRefusal, IsExecuted, IsRunReply, IsMade, IsMadeReply, OneReply, checked, status_of, report_of, made_report, no_files, Lines, trace_of}
 use Rattle.fj_job.specs.Taken.{IsReadOf}
 use Rattle.fj_job.specs.declared.task.Task.{Task}
 use Rattle.fj_job.specs.declared.task.Task.TheVariants.{Refuse, Check, Execute, Generate}
@@ -33,11 +33,11 @@ reply_same : (s t : Status) (o p : List ℕ) (f g : Files) → s ≡ t → o ≡
 reply_same s t o p f g a b c = rw (a, b, c) refl
 
 -- a deck that is carried out has one reply at most
-one_run : (deck : Deck) (trace : Bool) (files : Files) (reply other : Reply) → IsRunReply deck trace files reply → IsRunReply deck trace files other → reply ≡ other
-one_run deck trace files reply other a b =
+one_run : (deck : Deck) (lines : Lines) (files : Files) (reply other : Reply) → IsRunReply deck lines files reply → IsRunReply deck lines files other → reply ≡ other
+one_run deck lines files reply other a b =
     let same : a.ending ≡ b.ending = ap (λ o. unwrap_or o a.ending) (sym a.ends ∙ b.ends) in
     reply_same _ _ _ _ _ _ (a.status ∙ ap status_of same ∙ sym b.status)
-    (a.output ∙ ap (λ (e : Ending). report_of deck trace (plain_execution deck.variables deck.statements files) e) same ∙ sym b.output)
+    (a.output ∙ ap (λ (e : Ending). report_of deck lines (plain_execution deck.variables deck.statements files) e) same ∙ sym b.output)
     (a.files_left ∙ sym b.files_left)
 
 one_made : (deck : Deck) (seed count : ℕ) (files : Files) (reply other : Reply) → IsMadeReply deck seed count files reply → IsMadeReply deck seed count files other → reply ≡ other
@@ -51,15 +51,15 @@ one_making : (seed count : ℕ) (files : Files) (reading : Reading) (reply other
 one_making seed count files (Ok deck) reply other a b = one_made deck seed count files reply other a b
 one_making seed count files (Err refusal) reply other a b = a ∙ sym b
 
-one_executed : (trace : Bool) (files : Files) (reading : Reading) (reply other : Reply) → IsExecuted reading trace files reply → IsExecuted reading trace files other → reply ≡ other
-one_executed trace files (Ok deck) reply other a b = one_run deck trace files reply other a b
-one_executed trace files (Err refusal) reply other a b = a ∙ sym b
+one_executed : (lines : Lines) (files : Files) (reading : Reading) (reply other : Reply) → IsExecuted reading lines files reply → IsExecuted reading lines files other → reply ≡ other
+one_executed lines files (Ok deck) reply other a b = one_run deck lines files reply other a b
+one_executed lines files (Err refusal) reply other a b = a ∙ sym b
 
 pub one_reply : OneDeck → NoneIsBoth → OneRefusal → OneReply
 one_reply d n r Refuse text files reply other h k = h ∙ sym k
 one_reply d n r Check text files reply other h k = h.2 ∙ ap (λ (x : Reading). checked x files) (one_reading d n r text h.0 k.0 h.1 k.1) ∙ sym k.2
-one_reply d n r (Execute workers trace) text files reply other h k = one_executed trace files k.0 reply other
-    (subst (λ (x : Reading). IsExecuted x trace files reply) (one_reading d n r text h.0 k.0 h.1 k.1) h.2) k.2
+one_reply d n r (Execute workers trace) text files reply other h k = one_executed (trace_of trace) files k.0 reply other
+    (subst (λ (x : Reading). IsExecuted x (trace_of trace) files reply) (one_reading d n r text h.0 k.0 h.1 k.1) h.2) k.2
 one_reply d n r (Generate seed count true) text files reply other h k = h ∙ sym k
 one_reply d n r (Generate seed count false) text files reply other h k = one_making seed count files k.0 reply other
     (subst (λ (x : Reading). IsMade x seed count files reply) (one_reading d n r (generated_text seed count) h.0 k.0 h.1 k.1) h.2) k.2

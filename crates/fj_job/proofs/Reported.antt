@@ -43,7 +43,7 @@ use Rattle.fj_job.specs.Fitting.{IsOther, LeavesFit}
 use Rattle.fj_job.specs.Losing.{wants}
 use Rattle.fj_job.specs.Executing.{AreClosed, IsFaultReported, IsFaultBegun, IsEndBegun}
 use Rattle.fj_job.specs.Making.{HasMade, IsMadeFront, TookMade, made_text}
-use Rattle.fj_job.specs.Reply.{Reply, IsRunReply, open_feed, trace_of, variable_lines, report_of, made_lines, made_report, no_files, files_in, status_of}
+use Rattle.fj_job.specs.Reply.{Reply, IsRunReply, open_feed, variable_lines, report_of, made_lines, made_report, no_files, files_in, status_of, Lines}
 use Rattle.fj_job.specs.declared.ending.Carried.{Carried}
 use Rattle.fj_job.proofs.Cut.{lost_none}
 use Rattle.fj_job.proofs.CutEnds.{ended_exact}
@@ -218,84 +218,84 @@ took_some meaning rack held before now Tells old new deck files m cut t = front_
 -- ---- reports
 
 -- the records that ended with that behind them are the report of a fault
-pub fault_reported : {F : Type 0} (deck : Deck) (files : Files) (l : Left F) (held : Holdings) (before now : ℕ) (at : IsLeftAt deck files l held before now) (trace : Bool) (line : ℕ) → at.comes.statement.0.line ≡ line
-    → IsFaultReport deck trace files line (whole_records l.core.output ++ fault_text trace line l.core.output (tells_of l.core.tells))
-fault_reported deck files l held before now at trace line is =
+pub fault_reported : {F : Type 0} (deck : Deck) (files : Files) (l : Left F) (held : Holdings) (before now : ℕ) (at : IsLeftAt deck files l held before now) (lines : Lines) (line : ℕ) → at.comes.statement.0.line ≡ line
+    → IsFaultReport deck lines files line (whole_records l.core.output ++ fault_text lines line l.core.output (tells_of l.core.tells))
+fault_reported deck files l held before now at lines line is =
     let s : State = reached at.reach deck.variables at.comes.statement at.comes.before in
     record {
       comes = at.comes;
       reach = at.reach;
       may = at.may;
       line_is = is;
-      output_is = text_and_feed deck files at.comes at.reach l.core.output at.output (trace_of trace (tells_of l.core.tells) ++ status_text (DiskFault line))
-          ∙ ap (λ (o : Output). o.text ++ (open_feed o ++ (trace_of trace (tells_of l.core.tells) ++ status_text (DiskFault line)))) at.output
-          ∙ ap (λ (ts : List Tell). s.output.text ++ (open_feed s.output ++ (trace_of trace ts ++ status_text (DiskFault line)))) at.tells;
+      output_is = text_and_feed deck files at.comes at.reach l.core.output at.output (lines (tells_of l.core.tells) ++ status_text (DiskFault line))
+          ∙ ap (λ (o : Output). o.text ++ (open_feed o ++ (lines (tells_of l.core.tells) ++ status_text (DiskFault line)))) at.output
+          ∙ ap (λ (ts : List Tell). s.output.text ++ (open_feed s.output ++ (lines ts ++ status_text (DiskFault line)))) at.tells;
     }
 
-module _ {F : Type 0} (deck : Deck) (trace : Bool) (it : Carried F) (before now : Held) (left : Holdings) (own own' : ℕ) (old mid new : List ℕ) (same : it.left.deck ≡ deck) where
+module _ {F : Type 0} (deck : Deck) (lines : Lines) (it : Carried F) (before now : Held) (left : Holdings) (own own' : ℕ) (old mid new : List ℕ) (same : it.left.deck ≡ deck) where
   -- its line is that of the statement at hand
   line_by : (at : IsLeftAt deck (files_in before) it.left left own own') (line : ℕ) → ((lined : _) → slice_get it.left.deck.statements it.left.at ≡ Some lined → line ≡ lined.line) → at.comes.statement.0.line ≡ line
   line_by at line is = ap (λ (x : Stated). x.0.line) at.at.2 ∙ sym (is at.at.0 (ap (λ (d : Deck). slice_get d.statements it.left.at) same ∙ at.at.1))
 
   -- a fault that was told
   pub told_fault : (line : ℕ) (Tells Now Failed Failed' : Type 0) → (Tells → Now) → (Failed → Failed') → IsLeftAt deck (files_in before) it.left left own own'
-      → IsFaultReported trace it line Now mid new Failed → (Tells → mid ≡ old ++ whole_records it.left.core.output) → CutByDisk deck trace (files_in before) line Tells old new Failed' left own own'
+      → IsFaultReported lines it line Now mid new Failed → (Tells → mid ≡ old ++ whole_records it.left.core.output) → CutByDisk deck lines (files_in before) line Tells old new Failed' left own own'
   unfolding fault_reported
   told_fault line Tells Now Failed Failed' on later at fault one = (
-    whole_records it.left.core.output ++ fault_text trace line it.left.core.output (tells_of it.left.core.tells),
-    fault_reported deck (files_in before) it.left left own own' at trace line (line_by at line fault.line_is),
+    whole_records it.left.core.output ++ fault_text lines line it.left.core.output (tells_of it.left.core.tells),
+    fault_reported deck (files_in before) it.left left own own' at lines line (line_by at line fault.line_is),
     at.files_are,
     at.learnt,
     λ t. elim (fault.taken (on t)) [ inl e ↦ inl (taken_both old mid new _ _ (one t) e) | inr f ↦ inr (later f.0, part_behind old mid new _ _ (one t) f.1) ],
   )
 
-  pub report_of_fault : (status : Status) (Tells : Type 0) → Tells → IsLeftAt deck (files_in before) it.left left own own' → IsFaultBegun trace it status Tells mid new → mid ≡ old ++ whole_records it.left.core.output
-      → TookReport deck trace (files_in before) status old new
+  pub report_of_fault : (status : Status) (Tells : Type 0) → Tells → IsLeftAt deck (files_in before) it.left left own own' → IsFaultBegun lines it status Tells mid new → mid ≡ old ++ whole_records it.left.core.output
+      → TookReport deck lines (files_in before) status old new
   report_of_fault status Tells t at fault one = (
     fault.line,
     fault.answer,
-    whole_records it.left.core.output ++ fault_text trace fault.line it.left.core.output (tells_of it.left.core.tells),
-    fault_reported deck (files_in before) it.left left own own' at trace fault.line (line_by at fault.line fault.line_is),
+    whole_records it.left.core.output ++ fault_text lines fault.line it.left.core.output (tells_of it.left.core.tells),
+    fault_reported deck (files_in before) it.left left own own' at lines fault.line (line_by at fault.line fault.line_is),
     front_behind old mid new _ _ one (fault.taken t),
   )
 
   -- memory was wanting in it
-  pub want_of_fault : (status : Status) (Tells Now : Type 0) → (Tells → Now) → (at : IsLeftAt deck (files_in before) it.left left own own') → IsFaultBegun trace it status Now mid new
-      → (Tells → mid ≡ old ++ whole_records it.left.core.output) → CutByMemory deck trace (files_in before) Tells old new left own own'
+  pub want_of_fault : (status : Status) (Tells Now : Type 0) → (Tells → Now) → (at : IsLeftAt deck (files_in before) it.left left own own') → IsFaultBegun lines it status Now mid new
+      → (Tells → mid ≡ old ++ whole_records it.left.core.output) → CutByMemory deck lines (files_in before) Tells old new left own own'
   unfolding fault_reported
   want_of_fault status Tells Now on at fault one =
       let line = line_by at fault.line fault.line_is in
-      let report = fault_reported deck (files_in before) it.left left own own' at trace fault.line line in
+      let report = fault_reported deck (files_in before) it.left left own own' at lines fault.line line in
       record {
         comes = at.comes;
         reach = at.reach;
         may = at.may;
-        due = whole_records it.left.core.output ++ fault_text trace fault.line it.left.core.output (tells_of it.left.core.tells);
-        written = inr (report.output_is ∙ ap (λ n. fault_report trace n (reached at.reach deck.variables at.comes.statement at.comes.before)) (sym line));
+        due = whole_records it.left.core.output ++ fault_text lines fault.line it.left.core.output (tells_of it.left.core.tells);
+        written = inr (report.output_is ∙ ap (λ n. fault_report lines n (reached at.reach deck.variables at.comes.statement at.comes.before)) (sym line));
         taken = λ t. front_behind old mid new _ _ (one t) (fault.taken (on t));
         files_are = at.files_are.others;
       }
 
   -- what is told where the deck ended: the records that ended, and the report behind them
-  reply_of_end : (Took : List ℕ → Type 0) → IsResult (plain_execution deck.variables deck.statements (files_in before)) (files_in now) it.left → IsEndBegun trace it Took
-      → (reply : Reply) × IsRunReply deck trace (files_in before) reply × (text : List ℕ) × (reply.output ≡ whole_records it.left.core.output ++ text) × Took text
+  reply_of_end : (Took : List ℕ → Type 0) → IsResult (plain_execution deck.variables deck.statements (files_in before)) (files_in now) it.left → IsEndBegun lines it Took
+      → (reply : Reply) × IsRunReply deck lines (files_in before) reply × (text : List ℕ) × (reply.output ≡ whole_records it.left.core.output ++ text) × Took text
   reply_of_end Took is ended =
       let whole : List ℕ = whole_records it.left.core.output in
-      let text : List ℕ = open_record it.left.core.output ++ run_text it.left.deck.variables trace (ending_of ended.ending) it.left.core in
-      let h : HasEnded trace it.left (status_of (ending_of ended.ending)) (Unit {0}) whole (whole ++ text) =
+      let text : List ℕ = open_record it.left.core.output ++ run_text it.left.deck.variables lines (ending_of ended.ending) it.left.core in
+      let h : HasEnded lines it.left (status_of (ending_of ended.ending)) (Unit {0}) whole (whole ++ text) =
       record { going = ended.going; ending = ended.ending; ends = ended.ends; status_is = refl; output = λ _. refl } in
-      let r = replies deck trace it.left before now (status_of (ending_of ended.ending)) (Unit {0}) (Unit {0}) [] whole (whole ++ text) (λ t. t) same is h (λ _. refl) in
+      let r = replies deck lines it.left before now (status_of (ending_of ended.ending)) (Unit {0}) (Unit {0}) [] whole (whole ++ text) (λ t. t) same is h (λ _. refl) in
       (r.reply, r.is, text, sym (r.output tt), ended.taken)
 
-  pub part_of_end : (Tells : Type 0) → Tells → IsResult (plain_execution deck.variables deck.statements (files_in before)) (files_in now) it.left → IsEndBegun trace it (λ due. Tells → TakesFront mid new due)
-      → mid ≡ old ++ whole_records it.left.core.output → TookRun deck trace (files_in before) old new
+  pub part_of_end : (Tells : Type 0) → Tells → IsResult (plain_execution deck.variables deck.statements (files_in before)) (files_in now) it.left → IsEndBegun lines it (λ due. Tells → TakesFront mid new due)
+      → mid ≡ old ++ whole_records it.left.core.output → TookRun deck lines (files_in before) old new
   part_of_end Tells t is ended one =
       let r = reply_of_end (λ due. Tells → TakesFront mid new due) is ended in
       (r.0, r.1, subst (λ (x : List ℕ). TakesFront old new x) (sym r.3) (front_behind old mid new _ r.2 one (r.4 t)))
 
   -- memory was wanting in the report
   pub want_of_end : (Tells Now : Type 0) → (Tells → Now) → (x : IsLeftAt deck (files_in before) it.left left own own') → x.reach ≡ At → IsResult (plain_execution deck.variables deck.statements (files_in before)) (files_in now) it.left
-      → IsEndBegun trace it (λ due. Now → TakesFront mid new due) → (Tells → mid ≡ old ++ whole_records it.left.core.output) → CutByMemory deck trace (files_in before) Tells old new left own own'
+      → IsEndBegun lines it (λ due. Now → TakesFront mid new due) → (Tells → mid ≡ old ++ whole_records it.left.core.output) → CutByMemory deck lines (files_in before) Tells old new left own own'
   want_of_end Tells Now on x reach is ended one =
       let r = reply_of_end (λ due. Now → TakesFront mid new due) is ended in
       record {
@@ -303,14 +303,14 @@ module _ {F : Type 0} (deck : Deck) (trace : Bool) (it : Carried F) (before now 
         reach = x.reach;
         may = x.may;
         due = r.0.output;
-        written = inl (subst (λ (k : Reach). IsNext k deck trace (files_in before) x.comes r.0.output) (sym reach) (r.0, r.1, refl));
+        written = inl (subst (λ (k : Reach). IsNext k deck lines (files_in before) x.comes r.0.output) (sym reach) (r.0, r.1, refl));
         taken = λ t. subst (λ (y : List ℕ). TakesFront old new y) (sym r.3) (front_behind old mid new _ r.2 (one t) (r.4 (on t)));
         files_are = x.files_are.others;
       }
 
   -- a fault of the sink in the report
   pub write_of_end : (Tells Now : Type 0) → (Tells → Now) → (x : IsLeftAt deck (files_in before) it.left left own own') → x.reach ≡ At → IsResult (plain_execution deck.variables deck.statements (files_in before)) (files_in now) it.left
-      → IsEndBegun trace it (λ due. Now → TakesPart mid new due) → (Tells → mid ≡ old ++ whole_records it.left.core.output) → CutBySink deck trace (files_in before) Tells old new left own own'
+      → IsEndBegun lines it (λ due. Now → TakesPart mid new due) → (Tells → mid ≡ old ++ whole_records it.left.core.output) → CutBySink deck lines (files_in before) Tells old new left own own'
   write_of_end Tells Now on x reach is ended one =
       let r = reply_of_end (λ due. Now → TakesPart mid new due) is ended in
       record {
@@ -318,7 +318,7 @@ module _ {F : Type 0} (deck : Deck) (trace : Bool) (it : Carried F) (before now 
         reach = x.reach;
         may = x.may;
         due = r.0.output;
-        next = subst (λ (k : Reach). IsNext k deck trace (files_in before) x.comes r.0.output) (sym reach) (r.0, r.1, refl);
+        next = subst (λ (k : Reach). IsNext k deck lines (files_in before) x.comes r.0.output) (sym reach) (r.0, r.1, refl);
         taken = λ t. let k = r.4 (on t) in
             subst (λ (o : Output). TookBehind old new (whole_records o) r.0.output) x.output
             (k.0, k.1, k.2, r.3 ∙ ap (λ (y : List ℕ). whole_records it.left.core.output ++ y) k.3, taken_both old mid new _ _ (one t) k.4);
@@ -326,7 +326,7 @@ module _ {F : Type 0} (deck : Deck) (trace : Bool) (it : Carried F) (before now 
       }
 
   -- a fault of the sink before it
-  pub write_of_begun : (Tells : Type 0) → IsLeftBegun deck (files_in before) it.left Tells old mid left own own' → new ≡ mid → CutBySink deck trace (files_in before) Tells old new left own own'
+  pub write_of_begun : (Tells : Type 0) → IsLeftBegun deck (files_in before) it.left Tells old mid left own own' → new ≡ mid → CutBySink deck lines (files_in before) Tells old new left own own'
   write_of_begun Tells x still = record {
     comes = x.comes;
     reach = Untold;
@@ -340,31 +340,31 @@ module _ {F : Type 0} (deck : Deck) (trace : Bool) (it : Carried F) (before now 
 -- ---- fronts of a reply
 
 -- what a sink took of the output up to a statement is a front of the output of the whole execution
-pub front_so_far : (deck : Deck) (files : Files) (old new lines : List ℕ) → TookSome deck files old new
-    → TakesFront old new ((plain_execution deck.variables deck.statements files).output.text ++ lines)
-front_so_far deck files old new lines (part, rest, so_far, taken) =
+pub front_so_far : (deck : Deck) (files : Files) (old new behind : List ℕ) → TookSome deck files old new
+    → TakesFront old new ((plain_execution deck.variables deck.statements files).output.text ++ behind)
+front_so_far deck files old new behind (part, rest, so_far, taken) =
     let f = goes_on_behind deck files so_far.comes so_far.reach in
     let text : (plain_execution deck.variables deck.statements files).output.text ≡ (part ++ rest) ++ f.more = f.text ∙ ap (λ x. x ++ f.more) (sym so_far.output_is) in
-    front_more old new _ lines (subst (λ (x : List ℕ). TakesFront old new x) (sym text) (front_more old new (part ++ rest) f.more (part, rest, refl, taken)))
+    front_more old new _ behind (subst (λ (x : List ℕ). TakesFront old new x) (sym text) (front_more old new (part ++ rest) f.more (part, rest, refl, taken)))
 
 pub some_is : {A : Type 0} (o : Option A) → IsSome o → (a : A) × (o ≡ Some a)
 some_is None s = cc
 some_is (Some a) s = (a, refl)
 
 -- a deck that is carried out has a reply
-pub part_of_run : (deck : Deck) (trace : Bool) (files : Files) (old new : List ℕ) → IsSound deck
-    → ((lines : List ℕ) → TakesFront old new ((plain_execution deck.variables deck.statements files).output.text ++ lines)) → TookRun deck trace files old new
-part_of_run deck trace files old new sound front =
+pub part_of_run : (deck : Deck) (lines : Lines) (files : Files) (old new : List ℕ) → IsSound deck
+    → ((behind : List ℕ) → TakesFront old new ((plain_execution deck.variables deck.statements files).output.text ++ behind)) → TookRun deck lines files old new
+part_of_run deck lines files old new sound front =
     let r = plain_execution deck.variables deck.statements files in
     let ends = some_is r.ending (deck_ends deck files sound) in (
-      record { status = status_of ends.0; output = report_of deck trace r ends.0; files = r.files },
+      record { status = status_of ends.0; output = report_of deck lines r ends.0; files = r.files },
       record { ending = ends.0; ends = ends.1; status = refl; output = refl; files_left = refl },
-      front (open_feed r.output ++ (trace_of trace r.tells ++ (status_text (status_of ends.0) ++ variable_lines deck.variables r.vars))),
+      front (open_feed r.output ++ (lines r.tells ++ (status_text (status_of ends.0) ++ variable_lines deck.variables r.vars))),
     )
 
 -- and one that was made
 pub part_of_made : (deck : Deck) (seed count : ℕ) (files : Files) (old new : List ℕ) → IsSound deck
-    → ((lines : List ℕ) → TakesFront old new ((plain_execution deck.variables deck.statements no_files).output.text ++ lines)) → TookMade deck seed count files old new
+    → ((behind : List ℕ) → TakesFront old new ((plain_execution deck.variables deck.statements no_files).output.text ++ behind)) → TookMade deck seed count files old new
 part_of_made deck seed count files old new sound front =
     let r = plain_execution deck.variables deck.statements no_files in
     let ends = some_is r.ending (deck_ends deck no_files sound) in (
@@ -379,7 +379,7 @@ pub made_front : {F : Type 0} (deck : Deck) (seed count : ℕ) (it : Carried F) 
     → (it.settled ≡ Ok tt → mid ≡ old ++ whole_records it.left.core.output) → IsMadeFront seed count it now mid new → TookMade deck seed count files old new
 made_front deck seed count it files now before old mid new sound same none some result whole_is (inl e) =
     part_of_made deck seed count files old new sound
-    (λ lines. front_so_far deck no_files old new lines (subst (λ (x : List ℕ). TookSome deck no_files old x) (sym e) (subst (λ (f : Files). TookSome deck f old mid) (none_there before none) some)))
+    (λ behind. front_so_far deck no_files old new behind (subst (λ (x : List ℕ). TookSome deck no_files old x) (sym e) (subst (λ (f : Files). TookSome deck f old mid) (none_there before none) some)))
 made_front deck seed count it files now before old mid new sound same none some result whole_is (inr m) =
     let whole : List ℕ = whole_records it.left.core.output in
     let text : List ℕ = open_record it.left.core.output ++ made_text seed count (ending_of m.ending) it.left now in

@@ -18,7 +18,7 @@ use Rattle.fj_job.specs.Answers.{IsAnswer, IsLost, IsOfRun, LeavesDisk, HasCause
 use Rattle.fj_job.specs.Seen.{Seen, OnDisk, left_alone}
 use Rattle.fj_job.specs.Cut.{TookRun, TookReport, CutByDisk, CutBySink, CutByMemory}
 use Rattle.fj_job.proofs.Fronts.{fault_by, fault_more, want_by, want_at, write_by, write_at}
-use Rattle.fj_job.specs.Reply.{IsRefusal, usage_reply, refusal_reply, files_in, status_of}
+use Rattle.fj_job.specs.Reply.{IsRefusal, usage_reply, refusal_reply, files_in, status_of, Lines, trace_of}
 use Rattle.fj_job.specs.declared.task.Task.{Task}
 use Rattle.fj_job.specs.declared.task.Task.TheVariants.{Refuse, Check, Execute, Generate}
 
@@ -126,35 +126,35 @@ of_run status told r (inr l) = lost_of_run status l
 
 -- ---- where no deck is carried out
 
-execute_more : (task : Task) (P Q : Bool → Type 0) → ((trace : Bool) → P trace → Q trace) → IfExecute task P → IfExecute task Q
+execute_more : (task : Task) (P Q : Lines → Type 0) → ((lines : Lines) → P lines → Q lines) → IfExecute task P → IfExecute task Q
 execute_more Refuse P Q f p = tt
 execute_more Check P Q f p = tt
-execute_more (Execute workers trace) P Q f p = f trace p
+execute_more (Execute workers trace) P Q f p = f (trace_of trace) p
 execute_more (Generate seed count shown) P Q f p = tt
 
 -- a fault of the disk has no cause there
 no_fault : (status : Status) (R W P : Type 0) (line : ℕ) → HasCause R W ⊥ status → status ≡ DiskFault line → P
 no_fault status R W P line c e = absurd (subst (λ (x : Status). HasCause R W ⊥ x) e c)
 
-execute_all : (task : Task) (P : Bool → Type 0) → ((trace : Bool) → P trace) → IfExecute task P
+execute_all : (task : Task) (P : Lines → Type 0) → ((lines : Lines) → P lines) → IfExecute task P
 execute_all Refuse P f = tt
 execute_all Check P f = tt
-execute_all (Execute workers trace) P f = f trace
+execute_all (Execute workers trace) P f = f (trace_of trace)
 execute_all (Generate seed count shown) P f = tt
 
 pub run_without : (task : Task) (status : Status) (source sink : Seen (List ℕ)) (disk : OnDisk)
     → (IsAnswer status → OfSource task source.tells → Replied task source.before disk.held.files status disk.held.files (λ output. sink.tells → sink.after ≡ sink.before ++ output))
     → AnswersRightly task status source
-    → (source.tells → status ≡ WriteFault → IfExecute task (λ trace. IsSomeRefusal source.before))
-    → (source.tells → IfExecute task (λ trace. sink.tells → TookRefusal source.before sink.before sink.after))
+    → (source.tells → status ≡ WriteFault → IfExecute task (λ lines. IsSomeRefusal source.before))
+    → (source.tells → IfExecute task (λ lines. sink.tells → TookRefusal source.before sink.before sink.after))
     → (OfSource task source.tells → sink.tells → TookFor task source.before (files_in disk.held.files) sink.before sink.after)
     → HasCause source.rose sink.rose ⊥ status → Keeps task status source sink (left_alone disk) → source.goes_on × sink.goes_on → HasRun task status source sink (left_alone disk)
 run_without task status source sink disk replied rightly written begun front cause keeps goes_on = record {
   replied = λ a t u. replied a t;
   rightly = rightly;
   fault = λ t u. fault_by status _ (λ line e. no_fault status _ _ _ line cause e);
-  written = λ t u. write_by status _ (λ e. execute_more task _ _ (λ trace. inl) (written t e));
-  memory = λ t u. want_by status _ (λ e. execute_more task _ _ (λ trace took. inl (tt, took)) (begun t));
+  written = λ t u. write_by status _ (λ e. execute_more task _ _ (λ lines. inl) (written t e));
+  memory = λ t u. want_by status _ (λ e. execute_more task _ _ (λ lines took. inl (tt, took)) (begun t));
   front = λ t u w. inl (front t w);
   keeps = keeps;
   cause = cause;
@@ -293,7 +293,7 @@ run_over task status source sink disk is same goes_on empty t = subst (λ (after
   rightly = t.rightly;
   fault = λ r d. t.fault r (of_disk task source.before _ _ empty d);
   written = λ r d. t.written r (of_disk task source.before _ _ empty d);
-  memory = λ r d. want_by status _ (λ e. execute_more task _ _ (λ trace begun. elim begun [ inl none ↦ inl (same, none.1) | inr cut ↦ inr cut ])
+  memory = λ r d. want_by status _ (λ e. execute_more task _ _ (λ lines begun. elim begun [ inl none ↦ inl (same, none.1) | inr cut ↦ inr cut ])
       (want_at status _ (t.memory r (of_disk task source.before _ _ empty d)) e));
   front = λ r d w. elim (t.front r (of_disk task source.before _ _ empty d) w) [ inl reply ↦ inl reply | inr fault ↦ absurd fault.0 ];
   keeps = record {
@@ -323,7 +323,7 @@ run_nothing task source sink disk is still empty source_same sink_same disk_same
   };
   fault = λ t u. tt;
   written = λ t u. tt;
-  memory = λ t u. execute_all task _ (λ trace. inl (disk_same, λ w. inl is));
+  memory = λ t u. execute_all task _ (λ lines. inl (disk_same, λ w. inl is));
   front = λ t u w. inl (inl is);
   keeps = record {
     aside = λ a. (source_same, disk_same);
@@ -341,12 +341,12 @@ run_nothing task source sink disk is still empty source_same sink_same disk_same
 -- ---- a deck was read, and carried out
 
 pub run_executed : (workers : ℕ) (trace : Bool) (deck : Deck) (status : Status) (source sink : Seen (List ℕ)) (disk : Seen OnDisk) → (source.tells → IsDeck source.before deck)
-    → (IsAnswer status → disk.tells → IsReplied deck trace disk.before.held.files status disk.after.held.files (λ output. sink.tells → sink.after ≡ sink.before ++ output))
-    → (disk.tells → IfFault status (λ line. CutByDisk deck trace (files_in disk.before.held.files) line sink.tells sink.before sink.after sink.rose disk.after.held disk.before.own disk.after.own))
-    → (disk.tells → IfWriteFault status (CutBySink deck trace (files_in disk.before.held.files) sink.tells sink.before sink.after disk.after.held disk.before.own disk.after.own))
-    → (disk.tells → IfMemory status ((disk.same × (sink.after ≡ sink.before)) ⊎ CutByMemory deck trace (files_in disk.before.held.files) sink.tells sink.before sink.after disk.after.held disk.before.own disk.after.own))
-    → (disk.tells → sink.tells → TookRun deck trace (files_in disk.before.held.files) sink.before sink.after
-    ⊎ (disk.rose × TookReport deck trace (files_in disk.before.held.files) status sink.before sink.after))
+    → (IsAnswer status → disk.tells → IsReplied deck (trace_of trace) disk.before.held.files status disk.after.held.files (λ output. sink.tells → sink.after ≡ sink.before ++ output))
+    → (disk.tells → IfFault status (λ line. CutByDisk deck (trace_of trace) (files_in disk.before.held.files) line sink.tells sink.before sink.after sink.rose disk.after.held disk.before.own disk.after.own))
+    → (disk.tells → IfWriteFault status (CutBySink deck (trace_of trace) (files_in disk.before.held.files) sink.tells sink.before sink.after disk.after.held disk.before.own disk.after.own))
+    → (disk.tells → IfMemory status ((disk.same × (sink.after ≡ sink.before)) ⊎ CutByMemory deck (trace_of trace) (files_in disk.before.held.files) sink.tells sink.before sink.after disk.after.held disk.before.own disk.after.own))
+    → (disk.tells → sink.tells → TookRun deck (trace_of trace) (files_in disk.before.held.files) sink.before sink.after
+    ⊎ (disk.rose × TookReport deck (trace_of trace) (files_in disk.before.held.files) status sink.before sink.after))
     → IsOfRun status → HasCause ⊥ sink.rose disk.rose status → (disk.tells → disk.after.held.in_use ≡ set.empty) → source.goes_on × sink.goes_on × disk.goes_on
     → HasRun (Execute workers trace) status source sink disk
 run_executed workers trace deck status source sink disk is replied fault written memory front r c back goes_on = record {

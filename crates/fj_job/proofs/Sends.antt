@@ -42,6 +42,7 @@ use Rattle.fj_acts.specs.contracts.doing.Given as Given
 use Rattle.fj_acts.specs.contracts.doing.Then as Then
 use Rattle.fj_acts.specs.contracts.state.Core as Core
 use Rattle.fj_runner.specs.contracts.ending.Ending as Ending
+use Rattle.fj_runner.specs.contracts.looking.Look as Look
 use Rattle.fj_runner.specs.contracts.machine.Machine as Machine
 use Rattle.fj_runner.specs.contracts.script.Runner as Runner
 use Rattle.fj_runner.specs.contracts.stage.Stage as Stage
@@ -150,6 +151,9 @@ ending_sends = variants_send Ending.enum (search (as_row_send, crosses, sendable
 tally_sends : IsSend Tally.the_row
 tally_sends = declared_send Tally.the_type (search (as_row_send, crosses, sendable) depth 20)
 
+look_sends : IsSend Look.the_row
+look_sends = declared_send Look.the_type (search (as_row_send, crosses, sendable) depth 20)
+
 -- ---- over files
 module _ (F : RattleType) (g : files.Ghosts F.Denot) (s : IsSend F) where
   stage_sends : IsSend (Stage.the_row F g)
@@ -158,8 +162,8 @@ module _ (F : RattleType) (g : files.Ghosts F.Denot) (s : IsSend F) where
   state_sends : IsSend (State.the_row F g)
   state_sends = declared_send (State.the_type F g) (search (as_row_send, core_sends, stage_sends, ending_sends, crosses, sendable) depth 20)
 
-  machine_sends : IsSend (Machine.the_row F g)
-  machine_sends = declared_send (Machine.the_type F g) (search (as_row_send, deck_sends, state_sends, tally_sends, connection_sends, crosses, sendable) depth 20)
+  pub machine_sends : IsSend (Machine.the_row F g)
+  machine_sends = declared_send (Machine.the_type F g) (search (as_row_send, deck_sends, state_sends, tally_sends, connection_sends, look_sends, crosses, sendable) depth 20)
 
 module _ (a b c : NamedLft) (W D F : RattleType) (gW : sink.Ghosts W.Denot) (gD : disk.Ghosts D.Denot F.Denot) (g : files.Ghosts F.Denot) where
   pub runner_sends : IsSend W → IsSend D → IsSend F → IsSend (Runner.the_row a b c W D F gW gD g)

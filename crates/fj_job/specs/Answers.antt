@@ -1,5 +1,5 @@
 -- What a run has done: its answer, what the sink took, what the disk is left with, and the cause of each fault.
-use Rattle.std.specs.Prelude.{◌≡◌, ◌⊎◌, ℕ, Bool, List, ◌++◌}
+use Rattle.std.specs.Prelude.{◌≡◌, ◌⊎◌, ℕ, List, ◌++◌}
 use Rattle.std.specs.FinSet as set
 use Rattle.fj_outside.specs.Holdings.{Files as Held}
 use Rattle.fj_statement.specs.declared.reason.Reason.{Reason}
@@ -12,7 +12,7 @@ use Rattle.fj_report.specs.declared.status.Status.{Status}
 use Rattle.fj_report.specs.declared.status.Status.TheVariants.{Ended, ErrorStop, Prohibited, DeckRefused, Usage, ReadFault, WriteFault, DiskFault, Memory}
 use Rattle.fj_job.specs.declared.task.Task.{Task}
 use Rattle.fj_job.specs.declared.task.Task.TheVariants.{Refuse, Check, Execute, Generate}
-use Rattle.fj_job.specs.Reply.{Reply, IsReplyTo, IsRefusal, files_in}
+use Rattle.fj_job.specs.Reply.{Reply, Lines, IsReplyTo, IsRefusal, files_in, trace_of}
 use Rattle.fj_job.specs.Cut.{TookReport, CutByDisk, CutBySink, CutByMemory}
 use Rattle.fj_job.specs.Seen.{Seen, OnDisk}
 
@@ -71,9 +71,9 @@ abbrev pub IfMemory : Status → Type 0 → Type 0
 IfMemory Memory P = P
 IfMemory _ P = Unit {0}
 
--- of a deck that is to be carried out, whether the trace is asked for
-abbrev pub IfExecute : Task → (Bool → Type 0) → Type 0
-IfExecute (Execute workers trace) P = P trace
+-- of a deck that is to be carried out, the lines in the middle of its report
+abbrev pub IfExecute : Task → (Lines → Type 0) → Type 0
+IfExecute (Execute workers trace) P = P (trace_of trace)
 IfExecute _ P = Unit {0}
 
 -- of a deck that was carried out or checked to an end
@@ -119,7 +119,7 @@ TookFor task text files old new = (new ≡ old) ⊎ ((reply : Reply) × IsReplyT
 
 -- the text is a deck that is carried out, and the sink took a front of the report of a fault of the disk
 abbrev pub TookFault : Task → Status → List ℕ → Files → List ℕ → List ℕ → Type 0
-TookFault (Execute workers trace) status text files old new = (deck : Deck) × IsDeck text deck × TookReport deck trace files status old new
+TookFault (Execute workers trace) status text files old new = (deck : Deck) × IsDeck text deck × TookReport deck (trace_of trace) files status old new
 TookFault _ status text files old new = ⊥
 
 -- what has to hold of the source, where its text is asked for
@@ -172,23 +172,23 @@ pub record HasRun (task : Task) (status : Status) (source sink : Seen (List ℕ)
   -- the disk's own number rose.
   -- The sink took all of it; or it failed then, and took a front of it, and not all. Each file that the disk does not tell as hurt,
   -- and that the statement is not about, is left as closing all units leaves it there; of the others `AreLeft` says how far they are.
-  pub fault : source.tells → OfDisk task source.before disk.tells → IfFault status (λ line. IfExecute task (λ trace. (deck : Deck) × IsDeck source.before deck
-      × CutByDisk deck trace (files_in disk.before.held.files) line sink.tells sink.before sink.after sink.rose disk.after.held disk.before.own disk.after.own))
+  pub fault : source.tells → OfDisk task source.before disk.tells → IfFault status (λ line. IfExecute task (λ lines. (deck : Deck) × IsDeck source.before deck
+      × CutByDisk deck lines (files_in disk.before.held.files) line sink.tells sink.before sink.after sink.rose disk.after.held disk.before.own disk.after.own))
   -- A fault of the sink is met where the text is refused and that is said; or at a statement of the deck that is carried out, or in the
   -- report of a deck that ended at it. The sink took the records that ended until there, whole, and then a front of those that the
   -- statement ends, or of the reply, and not all. Each file that the disk does not tell as hurt, and that the statement is not about,
   -- is left as closing all units leaves it there.
-  pub written : source.tells → OfDisk task source.before disk.tells → IfWriteFault status (IfExecute task (λ trace. IsSomeRefusal source.before
+  pub written : source.tells → OfDisk task source.before disk.tells → IfWriteFault status (IfExecute task (λ lines. IsSomeRefusal source.before
       ⊎ ((deck : Deck) × IsDeck source.before deck
-      × CutBySink deck trace (files_in disk.before.held.files) sink.tells sink.before sink.after disk.after.held disk.before.own disk.after.own)))
+      × CutBySink deck lines (files_in disk.before.held.files) sink.tells sink.before sink.after disk.after.held disk.before.own disk.after.own)))
   -- Want of memory is met before a deck was begun; or at a statement of the deck that is carried out, or, where the deck stops at it, behind
   -- it, in closing or in the report. The sink took a front of what may be written there. Each file that the statement neither opens nor
   -- removes is left as closing all units leaves it there; or a job was stopped in it that stands behind each one of its slot which a
   -- statement before this one waits for, or the end of its record: its bytes are as before below the first one that this changes, and a
   -- scratch file is gone, unless the disk's own number rose.
-  pub memory : source.tells → OfDisk task source.before disk.tells → IfMemory status (IfExecute task (λ trace. NoneBegun source sink disk
+  pub memory : source.tells → OfDisk task source.before disk.tells → IfMemory status (IfExecute task (λ lines. NoneBegun source sink disk
       ⊎ ((deck : Deck) × IsDeck source.before deck
-      × CutByMemory deck trace (files_in disk.before.held.files) sink.tells sink.before sink.after disk.after.held disk.before.own disk.after.own)))
+      × CutByMemory deck lines (files_in disk.before.held.files) sink.tells sink.before sink.after disk.after.held disk.before.own disk.after.own)))
   -- Whatever is answered, the sink took nothing or a front of the reply; or, where the disk failed while a deck was carried out, of
   -- the report of that fault, which is then answered, unless memory was wanting.
   pub front : OfSource task source.tells → OfDisk task source.before disk.tells → sink.tells → TookFor task source.before (files_in disk.before.held.files) sink.before sink.after

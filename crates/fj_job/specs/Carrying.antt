@@ -1,5 +1,6 @@
 -- A deck that is carried out on its slots.
-use Rattle.std.specs.Prelude.{◌≡◌, ◌^◌, ◌<◌, ℕ, Bool, false, List, [], replicate, length, All, Some, None, IsSome, is_some, drop, true}
+use Rattle.std.specs.Prelude.{◌≡◌, ◌⊎◌, ◌↔◌, ◌^◌, ◌<◌, ◌≤◌, ℕ, Bool, false, List, [], replicate, length, All, Some, None, IsSome, is_some, drop, true}
+use Rattle.fj_outside.specs.Faults.{Rose}
 use Rattle.fj_statement.specs.declared.deck.Deck.{Deck}
 use Rattle.fj_slot.specs.Ledger.{Ledger}
 use Rattle.fj_slot.specs.Serving.{Meaning}
@@ -14,9 +15,12 @@ use Rattle.fj_turns.specs.Run.{Run, Start}
 use Rattle.fj_turns.specs.Meant.{Leaves}
 use Rattle.fj_turns.specs.Serving.{first_run}
 use Rattle.fj_outside.specs.declared.outside.FileStore.{Ghosts}
+use Rattle.fj_items.specs.Handing.{HandsOver}
+use Rattle.fj_items.specs.declared.lost.Lost.TheVariants.{Disk, Sink}
 use Rattle.fj_closing.specs.Holding.{HoldUnits}
 use Rattle.fj_runner.specs.Going.{IsGoing}
 use Rattle.fj_runner.specs.Machine.{run_of}
+use Rattle.fj_runner.specs.Taking.{TakesMore}
 use Rattle.fj_runner.specs.declared.hand.Hand.TheVariants.{Idle}
 use Rattle.fj_runner.specs.declared.machine.Machine.{Machine}
 
@@ -43,6 +47,20 @@ pub record HasNotBegun {F : Type 0} {ghosts : Ghosts F} (told : F → Bool) (byt
   pub owed : m.tally.owed.items ≡ replicate 16 0
   pub names : m.state.core.names ≡ []
   pub on : IsGoing m
+
+-- What calls of a runner leave, and looks between them: it is what one call leaves, but for the deck and the looks.
+pub record LeavesButDeck {W D F : Type 0} {ghosts : Ghosts F} (tells_out : W → Type 0) (taken : W → List ℕ) (count_out : W → ℕ) (tells : D → Type 0) (count refusals : D → ℕ)
+    (out : W) (disk : D) (m : Machine F ghosts) (out' : W) (disk' : D) (m' : Machine F ghosts) : Type 0 where
+  pub telling : tells disk ↔ tells disk'
+  pub later : count disk ≤ count disk'
+  pub own : tells disk → refusals disk ≤ refusals disk'
+  pub telling_out : tells_out out ↔ tells_out out'
+  pub later_out : count_out out ≤ count_out out'
+  pub output : tells_out out → (m'.tally.lost ≡ None) ⊎ (m'.tally.lost ≡ Some Disk) → HandsOver (taken out) (taken out') m.state.core.output m'.state.core.output
+  pub front : tells_out out → TakesMore (taken out) (taken out')
+  pub of_disk : m'.tally.lost ≡ Some Disk → (m.tally.lost ≡ Some Disk) ⊎ Rose (count disk) (count disk')
+  pub of_sink : m'.tally.lost ≡ Some Sink → (m.tally.lost ≡ Some Sink) ⊎ Rose (count_out out) (count_out out')
+  pub first : IsSome m.tally.lost → m'.tally.lost ≡ m.tally.lost
 
 -- the runner is at a statement, and the slots are sound for jobs that were given until there
 pub record IsGivenAt {E J A : Type 0} (meaning : Meaning E J A Bay Job Answer) (deck : Deck) (files : Files) (rack : Rack E J A) (run : Run) : Type 0 where

@@ -1,5 +1,5 @@
 -- How a run that was carried out is reported, and what it replies.
-use Rattle.std.specs.Prelude.{◌≡◌, ◌++◌, ℕ, Bool, false, List, Some}
+use Rattle.std.specs.Prelude.{◌≡◌, ◌++◌, ℕ, false, List, Some}
 use Rattle.std.specs.Option.{option_map}
 use Rattle.fj_outside.specs.Holdings.{Files as Held}
 use Rattle.fj_statement.specs.declared.deck.Deck.{Deck}
@@ -16,15 +16,15 @@ use Rattle.fj_report.specs.declared.status.Status.TheVariants.{DiskFault}
 use Rattle.fj_runner.specs.Machine.{ending_of}
 use Rattle.fj_runner.specs.declared.ending.Ending.{Ending}
 use Rattle.fj_runner.specs.declared.left.Left.{Left}
-use Rattle.fj_job.specs.Reply.{Reply, IsRunReply, status_of, trace_of, variable_lines, files_in}
+use Rattle.fj_job.specs.Reply.{Reply, Lines, IsRunReply, status_of, variable_lines, files_in}
 
--- the lines behind the output: the transfers that were told, how the deck ended, and its variables
-abbrev pub run_text : List Variable → Bool → PlainEnding → Core → List ℕ
-run_text variables trace ending core = trace_of trace (tells_of core.tells) ++ (status_text (status_of ending) ++ variable_lines variables (values_of core.store))
+-- the lines behind the output: those in the middle, how the deck ended, and its variables
+abbrev pub run_text : List Variable → Lines → PlainEnding → Core → List ℕ
+run_text variables lines ending core = lines (tells_of core.tells) ++ (status_text (status_of ending) ++ variable_lines variables (values_of core.store))
 
--- the open record, the transfers that were told and the line of a fault of the disk
-abbrev pub fault_text : Bool → ℕ → Output → List Tell → List ℕ
-fault_text trace line output tells = open_record output ++ (trace_of trace tells ++ status_text (DiskFault line))
+-- the open record, the lines in the middle and the line of a fault of the disk
+abbrev pub fault_text : Lines → ℕ → Output → List Tell → List ℕ
+fault_text lines line output tells = open_record output ++ (lines tells ++ status_text (DiskFault line))
 
 -- what is left is that result, with those files
 pub record IsResult {F : Type 0} (r : Result) (now : Files) (left : Left F) : Type 0 where
@@ -35,17 +35,17 @@ pub record IsResult {F : Type 0} (r : Result) (now : Files) (left : Left F) : Ty
   pub files : r.files ≡ now
 
 -- the deck ended, and the sink took the open record and the lines behind it
-pub record HasEnded {F : Type 0} (trace : Bool) (left : Left F) (status : Status) (Tells : Type 0) (old new : List ℕ) : Type 0 where
+pub record HasEnded {F : Type 0} (lines : Lines) (left : Left F) (status : Status) (Tells : Type 0) (old new : List ℕ) : Type 0 where
   pub going : left.over ≡ false
   pub ending : Ending
   pub ends : left.ending ≡ Some ending
   pub status_is : status ≡ status_of (ending_of ending)
-  pub output : Tells → new ≡ old ++ (open_record left.core.output ++ run_text left.deck.variables trace (ending_of ending) left.core)
+  pub output : Tells → new ≡ old ++ (open_record left.core.output ++ run_text left.deck.variables lines (ending_of ending) left.core)
 
 -- the answer and the files that are left are those of the reply to a deck that is carried out, and its output was taken
-pub record IsReplied (deck : Deck) (trace : Bool) (files : Held) (status : Status) (left : Held) (Taken : List ℕ → Type 0) : Type 0 where
+pub record IsReplied (deck : Deck) (lines : Lines) (files : Held) (status : Status) (left : Held) (Taken : List ℕ → Type 0) : Type 0 where
   pub reply : Reply
-  pub is : IsRunReply deck trace (files_in files) reply
+  pub is : IsRunReply deck lines (files_in files) reply
   pub answer : status ≡ reply.status
   pub files_left : files_in left ≡ reply.files
   pub output : Taken reply.output

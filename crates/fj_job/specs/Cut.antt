@@ -1,5 +1,5 @@
 -- What a run that met a fault has told: what executing the deck tells, up to one of its statements.
-use Rattle.std.specs.Prelude.{◌≡◌, ◌≢◌, ◌⊎◌, ℕ, Bool, true, false, List, [], ◌++◌, Some, None, IsSome, slice_get}
+use Rattle.std.specs.Prelude.{◌≡◌, ◌≢◌, ◌⊎◌, ℕ, true, false, List, [], ◌++◌, Some, None, IsSome, slice_get}
 use Rattle.std.specs.FinSet as set
 use Rattle.fj_outside.specs.Faults.{Rose}
 use Rattle.fj_outside.specs.Holdings.{Holdings}
@@ -19,7 +19,7 @@ use Rattle.fj_report.specs.Lines.{status_text}
 use Rattle.fj_report.specs.declared.status.Status.{Status}
 use Rattle.fj_report.specs.declared.status.Status.TheVariants.{DiskFault, Memory}
 use Rattle.fj_items.specs.Handing.{TakesFront, TakesPart, whole_records}
-use Rattle.fj_job.specs.Reply.{Reply, IsRunReply, open_feed, trace_of}
+use Rattle.fj_job.specs.Reply.{Reply, Lines, IsRunReply, open_feed}
 
 -- how far a statement came
 pub data Reach : Type 0 where
@@ -52,17 +52,17 @@ pub record ComesTo (deck : Deck) (files : Files) : Type 0 where
 abbrev pub BeginsAt : {deck : Deck} {files : Files} → ComesTo deck files → ℕ → Type 0
 BeginsAt {deck} comes place = (lined : Lined) × (slice_get deck.statements place ≡ Some lined) × (comes.statement ≡ begun_in comes.before (lined, control_by lined.what))
 
--- what unit `*` got, the trace, and the line of a fault of the disk
-abbrev pub fault_report : Bool → ℕ → State → List ℕ
-fault_report trace line s = s.output.text ++ (open_feed s.output ++ (trace_of trace s.tells ++ status_text (DiskFault line)))
+-- what unit `*` got, the lines behind it, and the line of a fault of the disk
+abbrev pub fault_report : Lines → ℕ → State → List ℕ
+fault_report lines line s = s.output.text ++ (open_feed s.output ++ (lines s.tells ++ status_text (DiskFault line)))
 
 -- The run learnt of a fault of the disk at the statement of that line, and tells what the execution tells up to there.
-pub record IsFaultReport (deck : Deck) (trace : Bool) (files : Files) (line : ℕ) (output : List ℕ) : Type 0 where
+pub record IsFaultReport (deck : Deck) (lines : Lines) (files : Files) (line : ℕ) (output : List ℕ) : Type 0 where
   pub comes : ComesTo deck files
   pub reach : Reach
   pub may : MayReach reach deck.variables comes.statement comes.before
   pub line_is : comes.statement.0.line ≡ line
-  pub output_is : output ≡ fault_report trace line (reached reach deck.variables comes.statement comes.before)
+  pub output_is : output ≡ fault_report lines line (reached reach deck.variables comes.statement comes.before)
 
 -- Files that were cut short, where the disk's own number was `before` and is `now`. Each one that the statement neither opens nor removes is
 -- as closing all units leaves it there; one that is gone then may be there, where that number rose. Or a job of its unit was stopped in
@@ -87,8 +87,8 @@ abbrev pub IsLearnt : Stated → State → Holdings → ℕ → ℕ → Type 0
 IsLearnt statement s left before now = ((u : AwaitedUnit s statement.0.what) × (set.contains left.hurt u.name ≡ true)) ⊎ ((calls_disk statement.0.what ≡ true) × Rose before now)
 
 -- a sink took a front of the reply to a deck that is carried out
-abbrev pub TookRun : Deck → Bool → Files → List ℕ → List ℕ → Type 0
-TookRun deck trace files old new = (reply : Reply) × IsRunReply deck trace files reply × TakesFront old new reply.output
+abbrev pub TookRun : Deck → Lines → Files → List ℕ → List ℕ → Type 0
+TookRun deck lines files old new = (reply : Reply) × IsRunReply deck lines files reply × TakesFront old new reply.output
 
 -- what is answered where a fault of the disk is reported: that fault, unless memory was wanting
 abbrev pub IsOfReport : Status → ℕ → Type 0
@@ -97,20 +97,20 @@ IsOfReport Memory line = Unit {0}
 IsOfReport _ line = ⊥
 
 -- a sink took a front of the report of a fault of the disk
-abbrev pub TookReport : Deck → Bool → Files → Status → List ℕ → List ℕ → Type 0
-TookReport deck trace files status old new = (line : ℕ) × IsOfReport status line × (output : List ℕ) × IsFaultReport deck trace files line output × TakesFront old new output
+abbrev pub TookReport : Deck → Lines → Files → Status → List ℕ → List ℕ → Type 0
+TookReport deck lines files status old new = (line : ℕ) × IsOfReport status line × (output : List ℕ) × IsFaultReport deck lines files line output × TakesFront old new output
 
 -- The fault of a line is reported, and the files are left as they are there; unless the deck stops at the statement, it is learnt there.
 -- A sink took the report; or it failed, and took a front of it and not all.
-abbrev pub CutByDisk : Deck → Bool → Files → ℕ → Type 0 → List ℕ → List ℕ → Type 0 → Holdings → ℕ → ℕ → Type 0
-CutByDisk deck trace files line Tells old new Failed left before now = (output : List ℕ) × (report : IsFaultReport deck trace files line output)
+abbrev pub CutByDisk : Deck → Lines → Files → ℕ → Type 0 → List ℕ → List ℕ → Type 0 → Holdings → ℕ → ℕ → Type 0
+CutByDisk deck lines files line Tells old new Failed left before now = (output : List ℕ) × (report : IsFaultReport deck lines files line output)
     × AreLeft deck files report.comes report.reach left before now × ((report.reach ≡ Carried) ⊎ IsLearnt report.comes.statement report.comes.before left before now)
     × (Tells → (new ≡ old ++ output) ⊎ (Failed × TakesPart old new output))
 
 -- what is to be written next there: the records that the output has behind the statement; or, where the deck ended at it, the reply
-abbrev pub IsNext : Reach → (deck : Deck) → Bool → (files : Files) → ComesTo deck files → List ℕ → Type 0
-IsNext Carried deck trace files comes due = (reply : Reply) × IsRunReply deck trace files reply × (due ≡ reply.output)
-IsNext reach deck trace files comes due = due ≡ whole_records (step deck.variables comes.statement comes.before).0.output
+abbrev pub IsNext : Reach → (deck : Deck) → Lines → (files : Files) → ComesTo deck files → List ℕ → Type 0
+IsNext Carried deck lines files comes due = (reply : Reply) × IsRunReply deck lines files reply × (due ≡ reply.output)
+IsNext reach deck lines files comes due = due ≡ whole_records (step deck.variables comes.statement comes.before).0.output
 
 -- a sink took the first of what is due whole, and then a front of what is behind, and not all of it
 abbrev pub TookBehind : List ℕ → List ℕ → List ℕ → List ℕ → Type 0
@@ -118,27 +118,27 @@ TookBehind old new first due = (part rest : List ℕ) × (rest ≢ []) × (due �
 
 -- The sink failed at a statement of the deck, or in the report of a deck that ended at it. It took the records that ended until there,
 -- and then a front of what was to be written next, and not all of it; and the files are left as they are there.
-pub record CutBySink (deck : Deck) (trace : Bool) (files : Files) (Tells : Type 0) (old new : List ℕ) (left : Holdings) (before now : ℕ) : Type 0 where
+pub record CutBySink (deck : Deck) (lines : Lines) (files : Files) (Tells : Type 0) (old new : List ℕ) (left : Holdings) (before now : ℕ) : Type 0 where
   pub comes : ComesTo deck files
   pub reach : Reach
   pub may : MayReach reach deck.variables comes.statement comes.before
   pub due : List ℕ
-  pub next : IsNext reach deck trace files comes due
+  pub next : IsNext reach deck lines files comes due
   pub taken : Tells → TookBehind old new (whole_records (reached reach deck.variables comes.statement comes.before).output) due
   pub files_are : AreLeft deck files comes reach left before now
 
 -- what may be written there: what is next, or the report of a fault of the disk
-abbrev pub MayBeWritten : Reach → (deck : Deck) → Bool → (files : Files) → ComesTo deck files → List ℕ → Type 0
-MayBeWritten reach deck trace files comes due = IsNext reach deck trace files comes due
-    ⊎ (due ≡ fault_report trace comes.statement.0.line (reached reach deck.variables comes.statement comes.before))
+abbrev pub MayBeWritten : Reach → (deck : Deck) → Lines → (files : Files) → ComesTo deck files → List ℕ → Type 0
+MayBeWritten reach deck lines files comes due = IsNext reach deck lines files comes due
+    ⊎ (due ≡ fault_report lines comes.statement.0.line (reached reach deck.variables comes.statement comes.before))
 
 -- Memory was wanting at a statement of the deck; or, where the deck stops at it, behind it. A sink took a front of what may be written
 -- there, and the files are cut short there. A slot that stops for want of memory hurts no file.
-pub record CutByMemory (deck : Deck) (trace : Bool) (files : Files) (Tells : Type 0) (old new : List ℕ) (left : Holdings) (before now : ℕ) : Type 0 where
+pub record CutByMemory (deck : Deck) (lines : Lines) (files : Files) (Tells : Type 0) (old new : List ℕ) (left : Holdings) (before now : ℕ) : Type 0 where
   pub comes : ComesTo deck files
   pub reach : Reach
   pub may : MayReach reach deck.variables comes.statement comes.before
   pub due : List ℕ
-  pub written : MayBeWritten reach deck trace files comes due
+  pub written : MayBeWritten reach deck lines files comes due
   pub taken : Tells → TakesFront old new due
   pub files_are : AreCutShort deck files comes reach left before now

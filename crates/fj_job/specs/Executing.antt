@@ -1,5 +1,5 @@
 -- What the steps of carrying out a deck leave: its disk, its sink and what is answered.
-use Rattle.std.specs.Prelude.{◌≡◌, ◌⊎◌, ◌↔◌, ◌≤◌, ◌++◌, ℕ, Bool, false, List, Option, Result, Ok, Err, Some, None, IfOk, IfErr, slice_get}
+use Rattle.std.specs.Prelude.{◌≡◌, ◌⊎◌, ◌↔◌, ◌≤◌, ◌++◌, ℕ, false, List, Option, Result, Ok, Err, Some, None, IfOk, IfErr, slice_get}
 use Rattle.std.specs.FinSet as set
 use Rattle.fj_outside.specs.Faults.{Rose}
 use Rattle.fj_outside.specs.Holdings.{Holdings, SameAt}
@@ -37,6 +37,7 @@ use Rattle.fj_job.specs.Cutting.{IsLeftAt, IsLeftBegun, TookSome}
 use Rattle.fj_job.specs.Fitting.{IsOther, LeavesFit}
 use Rattle.fj_job.specs.Losing.{wants}
 use Rattle.fj_job.specs.Concluding.{HasEnded, IsReplied, IsResult, run_text, fault_text}
+use Rattle.fj_job.specs.Reply.{Lines}
 use Rattle.fj_job.specs.declared.ending.Carried.{Carried}
 
 -- Files went back to the disk, those of units and that of a connection that was kept, where all fits: none is out, whatever was lost.
@@ -60,6 +61,7 @@ pub record IsSettled {D F E J A : Type 0} {ghosts : Ghosts F} (tells : D → Typ
   pub ending : it.left.ending ≡ m.state.ending
   pub over : it.left.over ≡ m.tally.over
   pub at : it.left.at ≡ m.at.place
+  pub looks : it.left.looks ≡ m.looks
   pub nothing : it.settled ≡ Ok tt → m.tally.lost ≡ None
   pub closed : tells disk → LeavesFit meaning rack m → AreClosed meaning rack m.state.core.units m.kept (held disk) (held disk') (refusals disk) (refusals disk') it.settled
   pub own : tells disk → refusals disk ≤ refusals disk'
@@ -82,8 +84,8 @@ pub record IsCarriedOut {W D F E : Type 0} (tells_out : W → Type 0) (taken : W
   pub at_end : tells disk → IfOk result (λ it. it.settled ≡ Ok tt → it.left.over ≡ false → (ending : Ending) → it.left.ending ≡ Some ending
       → (x : IsLeftAt deck (files_of (held disk)) it.left (held disk') (refusals disk) (refusals disk')) × (x.reach ≡ At))
   -- so it is whatever was lost, also where memory was wanting in closing
-  pub at_want : tells disk → IfOk result (λ it. (trace : Bool)
-      → CutByMemory deck trace (files_of (held disk)) (tells_out out) (taken out) (taken out') (held disk') (refusals disk) (refusals disk'))
+  pub at_want : tells disk → IfOk result (λ it. (lines : Lines)
+      → CutByMemory deck lines (files_of (held disk)) (tells_out out) (taken out) (taken out') (held disk') (refusals disk) (refusals disk'))
   pub part : tells disk → tells_out out → IfOk result (λ it. TookSome deck (files_of (held disk)) (taken out) (taken out'))
   pub sink : IfOk result (λ it. it.settled ≡ Err Sink → Rose (count_out out) (count_out out'))
   pub of_disk : IfOk result (λ it. it.settled ≡ Err Disk → Rose (count disk) (count disk'))
@@ -95,45 +97,45 @@ pub record IsCarriedOut {W D F E : Type 0} (tells_out : W → Type 0) (taken : W
   pub later : count disk ≤ count disk'
 
 -- the fault of the line of the statement at hand, and what the sink took of it
-pub record IsFaultReported {F : Type 0} (trace : Bool) (it : Carried F) (line : ℕ) (Tells : Type 0) (old new : List ℕ) (Failed : Type 0) : Type 0 where
+pub record IsFaultReported {F : Type 0} (lines : Lines) (it : Carried F) (line : ℕ) (Tells : Type 0) (old new : List ℕ) (Failed : Type 0) : Type 0 where
   pub settled : it.settled ≡ Err Disk
   pub line_is : (lined : Lined) → slice_get it.left.deck.statements it.left.at ≡ Some lined → line ≡ lined.line
-  pub taken : Tells → let text = fault_text trace line it.left.core.output (tells_of it.left.core.tells) in (new ≡ old ++ text) ⊎ (Failed × TakesPart old new text)
+  pub taken : Tells → let text = fault_text lines line it.left.core.output (tells_of it.left.core.tells) in (new ≡ old ++ text) ⊎ (Failed × TakesPart old new text)
 
 -- the sink took a front of the report of a fault
-pub record IsFaultBegun {F : Type 0} (trace : Bool) (it : Carried F) (status : Status) (Tells : Type 0) (old new : List ℕ) : Type 0 where
+pub record IsFaultBegun {F : Type 0} (lines : Lines) (it : Carried F) (status : Status) (Tells : Type 0) (old new : List ℕ) : Type 0 where
   pub settled : it.settled ≡ Err Disk
   pub line : ℕ
   pub answer : IsOfReport status line
   pub line_is : (lined : Lined) → slice_get it.left.deck.statements it.left.at ≡ Some lined → line ≡ lined.line
-  pub taken : Tells → TakesFront old new (fault_text trace line it.left.core.output (tells_of it.left.core.tells))
+  pub taken : Tells → TakesFront old new (fault_text lines line it.left.core.output (tells_of it.left.core.tells))
 
 -- of the report of a deck that ended the sink took this
-pub record IsEndBegun {F : Type 0} (trace : Bool) (it : Carried F) (Took : List ℕ → Type 0) : Type 0 where
+pub record IsEndBegun {F : Type 0} (lines : Lines) (it : Carried F) (Took : List ℕ → Type 0) : Type 0 where
   pub settled : it.settled ≡ Ok tt
   pub going : it.left.over ≡ false
   pub ending : Ending
   pub ends : it.left.ending ≡ Some ending
-  pub taken : Took (open_record it.left.core.output ++ run_text it.left.deck.variables trace (ending_of ending) it.left.core)
+  pub taken : Took (open_record it.left.core.output ++ run_text it.left.deck.variables lines (ending_of ending) it.left.core)
 
 -- what the sink took of a report
-abbrev pub IsFrontReported : {F : Type 0} → Bool → Carried F → Status → Type 0 → List ℕ → List ℕ → Type 0
-IsFrontReported trace it status Tells old new = (new ≡ old) ⊎ IsFaultBegun trace it status Tells old new ⊎ IsEndBegun trace it (λ due. Tells → TakesFront old new due)
+abbrev pub IsFrontReported : {F : Type 0} → Lines → Carried F → Status → Type 0 → List ℕ → List ℕ → Type 0
+IsFrontReported lines it status Tells old new = (new ≡ old) ⊎ IsFaultBegun lines it status Tells old new ⊎ IsEndBegun lines it (λ due. Tells → TakesFront old new due)
 
 -- where it failed: before the report, and it took nothing of that; or in the report, and it took not all of it
-abbrev pub IsWriteReported : {F : Type 0} → Bool → Carried F → Type 0 → List ℕ → List ℕ → Type 0
-IsWriteReported trace it Tells old new = ((it.settled ≡ Err Sink) × (new ≡ old)) ⊎ IsEndBegun trace it (λ due. Tells → TakesPart old new due)
+abbrev pub IsWriteReported : {F : Type 0} → Lines → Carried F → Type 0 → List ℕ → List ℕ → Type 0
+IsWriteReported lines it Tells old new = ((it.settled ≡ Err Sink) × (new ≡ old)) ⊎ IsEndBegun lines it (λ due. Tells → TakesPart old new due)
 
 -- What was carried out is reported.
 pub record IsConcluded {W F E : Type 0} (tells_out : W → Type 0) (taken : W → List ℕ) (count_out : W → ℕ)
-    (trace : Bool) (carried : Result (Carried F) E) (out out' : W) (status : Status) : Type 0 where
+    (lines : Lines) (carried : Result (Carried F) E) (out out' : W) (status : Status) : Type 0 where
   pub settled : IsAnswer status → IfOk carried (λ it. it.settled ≡ Ok tt)
-  pub ended : IsAnswer status → IfOk carried (λ it. HasEnded trace it.left status (tells_out out) (taken out) (taken out'))
+  pub ended : IsAnswer status → IfOk carried (λ it. HasEnded lines it.left status (tells_out out) (taken out) (taken out'))
   pub begun : IfErr carried (λ _. status ≡ Memory)
   pub of_run : IsOfRun status
-  pub fault : IfOk carried (λ it. (line : ℕ) → status ≡ DiskFault line → IsFaultReported trace it line (tells_out out) (taken out) (taken out') (Rose (count_out out) (count_out out')))
-  pub written : status ≡ WriteFault → IfOk carried (λ it. IsWriteReported trace it (tells_out out) (taken out) (taken out'))
-  pub front : IfOk carried (λ it. IsFrontReported trace it status (tells_out out) (taken out) (taken out'))
+  pub fault : IfOk carried (λ it. (line : ℕ) → status ≡ DiskFault line → IsFaultReported lines it line (tells_out out) (taken out) (taken out') (Rose (count_out out) (count_out out')))
+  pub written : status ≡ WriteFault → IfOk carried (λ it. IsWriteReported lines it (tells_out out) (taken out) (taken out'))
+  pub front : IfOk carried (λ it. IsFrontReported lines it status (tells_out out) (taken out) (taken out'))
   pub silent : IfErr carried (λ _. out' ≡ out)
   pub cause : HasCause ⊥ ((IfOk carried (λ it. it.settled ≡ Err Sink)) ⊎ Rose (count_out out) (count_out out')) (IfOk carried (λ it. it.settled ≡ Err Disk)) status
   pub telling_out : tells_out out ↔ tells_out out'
@@ -141,16 +143,16 @@ pub record IsConcluded {W F E : Type 0} (tells_out : W → Type 0) (taken : W �
 
 -- A deck was carried out and reported.
 pub record IsExecuted {W D : Type 0} (tells_out : W → Type 0) (taken : W → List ℕ) (count_out : W → ℕ) (tells : D → Type 0) (held : D → Holdings) (count refusals : D → ℕ)
-    (deck : Deck) (trace : Bool) (out : W) (disk : D) (out' : W) (disk' : D) (status : Status) : Type 0 where
-  pub replied : IsAnswer status → tells disk → IsReplied deck trace (held disk).files status (held disk').files (λ output. tells_out out → taken out' ≡ taken out ++ output)
-  pub fault : tells disk → IfFault status (λ line. CutByDisk deck trace (files_of (held disk)) line (tells_out out) (taken out) (taken out') (Rose (count_out out) (count_out out'))
+    (deck : Deck) (lines : Lines) (out : W) (disk : D) (out' : W) (disk' : D) (status : Status) : Type 0 where
+  pub replied : IsAnswer status → tells disk → IsReplied deck lines (held disk).files status (held disk').files (λ output. tells_out out → taken out' ≡ taken out ++ output)
+  pub fault : tells disk → IfFault status (λ line. CutByDisk deck lines (files_of (held disk)) line (tells_out out) (taken out) (taken out') (Rose (count_out out) (count_out out'))
       (held disk') (refusals disk) (refusals disk'))
-  pub written : tells disk → IfWriteFault status (CutBySink deck trace (files_of (held disk)) (tells_out out) (taken out) (taken out') (held disk') (refusals disk) (refusals disk'))
+  pub written : tells disk → IfWriteFault status (CutBySink deck lines (files_of (held disk)) (tells_out out) (taken out) (taken out') (held disk') (refusals disk) (refusals disk'))
   -- there was no memory to begin, or it was wanting at a statement
   pub memory : tells disk → IfMemory status (((disk' ≡ disk) × (taken out' ≡ taken out))
-      ⊎ CutByMemory deck trace (files_of (held disk)) (tells_out out) (taken out) (taken out') (held disk') (refusals disk) (refusals disk'))
-  pub front : tells disk → tells_out out → TookRun deck trace (files_of (held disk)) (taken out) (taken out')
-      ⊎ (Rose (count disk) (count disk') × TookReport deck trace (files_of (held disk)) status (taken out) (taken out'))
+      ⊎ CutByMemory deck lines (files_of (held disk)) (tells_out out) (taken out) (taken out') (held disk') (refusals disk) (refusals disk'))
+  pub front : tells disk → tells_out out → TookRun deck lines (files_of (held disk)) (taken out) (taken out')
+      ⊎ (Rose (count disk) (count disk') × TookReport deck lines (files_of (held disk)) status (taken out) (taken out'))
   pub of_run : IsOfRun status
   pub cause : HasCause ⊥ (Rose (count_out out) (count_out out')) (Rose (count disk) (count disk')) status
   pub in_use : tells disk → (held disk').in_use ≡ set.empty

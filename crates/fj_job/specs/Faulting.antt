@@ -13,6 +13,7 @@ use Rattle.fj_plain.specs.Telling.{is_asynchronous}
 use Rattle.fj_items.specs.Handing.{whole_records}
 use Rattle.fj_acts.specs.Calling.{calls_disk}
 use Rattle.fj_job.specs.Cut.{Carried, ComesTo, CutBySink, IsLearnt}
+use Rattle.fj_job.specs.Reply.{Lines}
 
 -- two statements of a deck to which the execution comes are at two lines
 abbrev pub LinesNameStatements : Type 0
@@ -29,15 +30,15 @@ TookThrough old new deck files comes = (more : List ℕ) × (new ≡ old ++ (who
 -- Where a sink has failed, the statement is the first one that ends a record which was not taken whole; or all
 -- were, and it is the one at which the deck ended.
 abbrev pub WriteFaultsAreFirst : Type 0
-WriteFaultsAreFirst = (deck : Deck) (trace : Bool) (files : Files) (old new : List ℕ) (left : Holdings) (before now : ℕ) (fault : CutBySink deck trace files SinkTells old new left before now)
+WriteFaultsAreFirst = (deck : Deck) (lines : Lines) (files : Files) (old new : List ℕ) (left : Holdings) (before now : ℕ) (fault : CutBySink deck lines files SinkTells old new left before now)
     → ((comes : ComesTo deck files) → comes.index < fault.comes.index → TookThrough old new deck files comes)
     × (((fault.reach ≢ Carried) × (TookThrough old new deck files fault.comes → ⊥))
     ⊎ ((fault.reach ≡ Carried) × TookThrough old new deck files fault.comes × IsSome (step deck.variables fault.comes.statement fault.comes.before).1))
 
 -- What a sink took fits one fault of it: that statement, or the report behind it.
 abbrev pub OneWriteFault : Type 0
-OneWriteFault = (deck : Deck) (trace : Bool) (files : Files) (old new : List ℕ) (left left' : Holdings) (before now before' now' : ℕ) (fault : CutBySink deck trace files SinkTells old new left before now)
-    (other : CutBySink deck trace files SinkTells old new left' before' now')
+OneWriteFault = (deck : Deck) (lines : Lines) (files : Files) (old new : List ℕ) (left left' : Holdings) (before now before' now' : ℕ) (fault : CutBySink deck lines files SinkTells old new left before now)
+    (other : CutBySink deck lines files SinkTells old new left' before' now')
     → (fault.comes.index ≡ other.comes.index) × ((fault.reach ≡ Carried) ↔ (other.reach ≡ Carried))
 
 -- ---- statements that learn of no fault of the disk

@@ -11,13 +11,14 @@ use Rattle.fj_runner.specs.Machine.{ending_of}
 use Rattle.fj_runner.specs.declared.ending.Ending.{Ending}
 use Rattle.fj_runner.specs.declared.left.Left.{Left}
 use Rattle.fj_job.specs.Concluding.{run_text}
-use Rattle.fj_job.specs.Reply.{Reply, IsMadeReply, status_of, summed}
+use Rattle.fj_job.specs.Reply.{Reply, IsMadeReply, status_of, summed, lines_of}
 use Rattle.fj_job.specs.declared.ending.Carried.{Carried}
+use Rattle.fj_job.specs.declared.middle.Middle.TheVariants.{Nothing}
 
 -- the lines behind the output: the summary of a deck that ended, and of any other how it ended and its variables
 abbrev pub made_text : {F : Type 0} → ℕ → ℕ → PlainEnding → Left F → Files → List ℕ
 made_text seed count ended left files = summary_text (summed seed count (length left.deck.statements) (tells_of left.core.tells) files)
-made_text seed count e left files = run_text left.deck.variables false e left.core
+made_text seed count e left files = run_text left.deck.variables (lines_of Nothing) e left.core
 
 -- the deck ended, and the sink took the open record and the lines behind it
 pub record HasMade {F : Type 0} (seed count : ℕ) (left : Left F) (files : Files) (status : Status) (Tells : Type 0) (old new : List ℕ) : Type 0 where

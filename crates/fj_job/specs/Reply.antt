@@ -20,6 +20,8 @@ use Rattle.fj_report.specs.declared.summary.Summary.{Summary}
 use Rattle.fj_gen.specs.Generated.{generated_text}
 use Rattle.fj_report.specs.declared.status.Status.{Status}
 use Rattle.fj_report.specs.declared.status.Status.TheVariants.{Ended, ErrorStop, Prohibited, DeckRefused, Usage}
+use Rattle.fj_job.specs.declared.middle.Middle.{Middle}
+use Rattle.fj_job.specs.declared.middle.Middle.TheVariants.{Nothing, Trace, Given}
 use Rattle.fj_job.specs.declared.task.Task.{Task}
 use Rattle.fj_job.specs.declared.task.Task.TheVariants.{Refuse, Check, Execute, Generate}
 
@@ -47,8 +49,17 @@ open_feed output = if output.is_open then 10 ∷ [] else []
 abbrev pub told_line : Tell → List ℕ
 told_line t = trace_text t.line (number_from_code t.unit) t.id (code_of t.condition)
 
+-- what stands between the output and how the deck ended, by the transfers that were told
+abbrev pub Lines : Type 0
+Lines = List Tell → List ℕ
+
+abbrev pub lines_of : Middle → Lines
+lines_of Nothing tells = []
+lines_of Trace tells = flat_map told_line tells
+lines_of (Given text) tells = text.now
+
 -- the transfers in the order in which they were told, where they are asked for
-abbrev pub trace_of : Bool → List Tell → List ℕ
+abbrev pub trace_of : Bool → Lines
 trace_of trace tells = if trace then flat_map told_line tells else []
 
 -- the index that is shown of a place: a scalar has none
@@ -71,9 +82,9 @@ lines_from vars var (variable ∷ more) = place_lines vars variable var 1 (eleme
 abbrev pub variable_lines : List Variable → Variables → List ℕ
 variable_lines variables vars = lines_from vars 0 variables
 
--- what unit `*` got, the trace, how the deck ended, and its variables
-abbrev pub report_of : Deck → Bool → Left → Ending → List ℕ
-report_of deck trace r e = r.output.text ++ (open_feed r.output ++ (trace_of trace r.tells ++ (status_text (status_of e) ++ variable_lines deck.variables r.vars)))
+-- what unit `*` got, the lines behind it, how the deck ended, and its variables
+abbrev pub report_of : Deck → Lines → Left → Ending → List ℕ
+report_of deck lines r e = r.output.text ++ (open_feed r.output ++ (lines r.tells ++ (status_text (status_of e) ++ variable_lines deck.variables r.vars)))
 
 -- ---- the report of a deck that is made
 
@@ -119,11 +130,11 @@ made_report seed count deck r e = r.output.text ++ (open_feed r.output ++ made_l
 -- ---- replies
 
 -- to a deck that is carried out: what executing it one statement after another gives
-pub record IsRunReply (deck : Deck) (trace : Bool) (files : Files) (reply : Reply) : Type 0 where
+pub record IsRunReply (deck : Deck) (lines : Lines) (files : Files) (reply : Reply) : Type 0 where
   pub ending : Ending
   pub ends : (plain_execution deck.variables deck.statements files).ending ≡ Some ending
   pub status : reply.status ≡ status_of ending
-  pub output : reply.output ≡ report_of deck trace (plain_execution deck.variables deck.statements files) ending
+  pub output : reply.output ≡ report_of deck lines (plain_execution deck.variables deck.statements files) ending
   pub files_left : reply.files ≡ (plain_execution deck.variables deck.statements files).files
 
 -- to a deck that is made, which is carried out where no file is; the files are as they were
@@ -155,9 +166,9 @@ IsReading text (Ok deck) = IsDeck text deck
 IsReading text (Err refusal) = IsRefused text refusal.0 refusal.1
 
 -- to a text that is carried out
-abbrev pub IsExecuted : Reading → Bool → Files → Reply → Type 0
-IsExecuted (Ok deck) trace files reply = IsRunReply deck trace files reply
-IsExecuted (Err refusal) trace files reply = reply ≡ refusal_reply refusal.0 refusal.1 files
+abbrev pub IsExecuted : Reading → Lines → Files → Reply → Type 0
+IsExecuted (Ok deck) lines files reply = IsRunReply deck lines files reply
+IsExecuted (Err refusal) lines files reply = reply ≡ refusal_reply refusal.0 refusal.1 files
 
 -- to a text that is read alone
 abbrev pub checked : Reading → Files → Reply
@@ -173,7 +184,7 @@ IsMade (Err refusal) seed count files reply = reply ≡ refusal_reply refusal.0 
 abbrev pub IsReplyTo : Task → List ℕ → Files → Reply → Type 0
 IsReplyTo Refuse text files reply = reply ≡ usage_reply files
 IsReplyTo Check text files reply = (reading : Reading) × IsReading text reading × (reply ≡ checked reading files)
-IsReplyTo (Execute workers trace) text files reply = (reading : Reading) × IsReading text reading × IsExecuted reading trace files reply
+IsReplyTo (Execute workers trace) text files reply = (reading : Reading) × IsReading text reading × IsExecuted reading (trace_of trace) files reply
 IsReplyTo (Generate seed count true) text files reply = reply ≡ text_reply seed count files
 IsReplyTo (Generate seed count false) text files reply = (reading : Reading) × IsReading (generated_text seed count) reading × IsMade reading seed count files reply
 

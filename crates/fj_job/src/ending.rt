@@ -12,13 +12,14 @@ ghost use Rattle.fj_units.specs.Names.{AreInUse, stands, left_of};
 ghost use Rattle.fj_runner.specs.Machine.{ending_of};
 ghost use Rattle.fj_closing.specs.Holding.{HoldUnits};
 ghost use Rattle.fj_job.specs.Answers.{IsAnswer, IsLost, IsOfRun, HasCause};
-ghost use Rattle.fj_job.specs.Reply.{status_of};
+ghost use Rattle.fj_job.specs.Reply.{status_of, lines_of, trace_of};
 ghost use Rattle.fj_job.specs.Concluding.{HasEnded, run_text, fault_text};
 ghost use Rattle.fj_job.specs.Fitting.{kept_name, IsOther, AreOut};
 ghost use Rattle.fj_job.specs.Losing.{first_lost, settled_by};
 ghost use Rattle.fj_job.specs.Executing.{AreClosed, IsSettled, IsCarriedOut, IsConcluded, IsExecuted, IsFaultReported, IsFrontReported, IsWriteReported};
 
 use crate::carrying::{carry, carry_with};
+use crate::middle::{Middle, traced};
 use crate::ready::{Ready, ready_for};
 use crate::report::{fault_report, run_report, status_of};
 use crate::workers::workers_for;
@@ -79,7 +80,7 @@ fn line_at(statements: &[Lined], at: usize) -> u32
 fn write_run<W: Sink>(
     alloc: Global,
     variables: &[Variable],
-    trace: bool,
+    middle: Middle<'_>,
     ending: Ending,
     core: &mut Core,
     out: &mut W,
@@ -87,16 +88,16 @@ fn write_run<W: Sink>(
     requires { length variables.now ≤ 4096 }
     ensures status { (result ≡ status_of (ending_of ending)) ⊎ IsLost result }
     ensures output { IsAnswer result → W.tells out.old
-        → W.taken out.new ≡ W.taken out.old ++ (open_record core.old.output ++ run_text variables.now trace (ending_of ending) core.old) }
+        → W.taken out.new ≡ W.taken out.old ++ (open_record core.old.output ++ run_text variables.now (lines_of middle.entry) (ending_of ending) core.old) }
     ensures front { W.tells out.old
-        → TakesFront (W.taken out.old) (W.taken out.new) (open_record core.old.output ++ run_text variables.now trace (ending_of ending) core.old) }
+        → TakesFront (W.taken out.old) (W.taken out.new) (open_record core.old.output ++ run_text variables.now (lines_of middle.entry) (ending_of ending) core.old) }
     ensures part { result ≡ Status.WriteFault → W.tells out.old
-        → TakesPart (W.taken out.old) (W.taken out.new) (open_record core.old.output ++ run_text variables.now trace (ending_of ending) core.old) }
+        → TakesPart (W.taken out.old) (W.taken out.new) (open_record core.old.output ++ run_text variables.now (lines_of middle.entry) (ending_of ending) core.old) }
     ensures cause { HasCause ⊥ (Rose (W.count out.old) (W.count out.new)) ⊥ result }
     ensures telling { W.tells out.old ↔ W.tells out.new }
     ensures later { W.count out.old ≤ W.count out.new }
 {
-    match run_report(alloc, variables, trace, ending, core) {
+    match run_report(alloc, variables, middle, ending, core) {
         Ok(text) => match write_behind(&mut core.output, text.bytes(), out) {
             Ok(()) => status_of(ending),
             Err(lost) => lost,
@@ -109,19 +110,19 @@ fn write_run<W: Sink>(
 fn write_fault<W: Sink>(
     alloc: Global,
     line: u32,
-    trace: bool,
+    middle: Middle<'_>,
     core: &mut Core,
     out: &mut W,
 ) -> Status
     ensures status { (result ≡ Status.DiskFault line) ⊎ (result ≡ Status.Memory) }
     ensures whole { result ≡ Status.DiskFault line → W.tells out.old
-        → (W.taken out.new ≡ W.taken out.old ++ fault_text trace line core.old.output (tells_of core.old.tells))
-        ⊎ (Rose (W.count out.old) (W.count out.new) × TakesPart (W.taken out.old) (W.taken out.new) (fault_text trace line core.old.output (tells_of core.old.tells))) }
-    ensures front { W.tells out.old → TakesFront (W.taken out.old) (W.taken out.new) (fault_text trace line core.old.output (tells_of core.old.tells)) }
+        → (W.taken out.new ≡ W.taken out.old ++ fault_text (lines_of middle.entry) line core.old.output (tells_of core.old.tells))
+        ⊎ (Rose (W.count out.old) (W.count out.new) × TakesPart (W.taken out.old) (W.taken out.new) (fault_text (lines_of middle.entry) line core.old.output (tells_of core.old.tells))) }
+    ensures front { W.tells out.old → TakesFront (W.taken out.old) (W.taken out.new) (fault_text (lines_of middle.entry) line core.old.output (tells_of core.old.tells)) }
     ensures telling { W.tells out.old ↔ W.tells out.new }
     ensures later { W.count out.old ≤ W.count out.new }
 {
-    match fault_report(alloc, trace, line, core) {
+    match fault_report(alloc, middle, line, core) {
         Ok(text) => match write_behind(&mut core.output, text.bytes(), out) {
             Ok(()) | Err(Status::WriteFault) => Status::DiskFault { stmt: line },
             Err(_) => Status::Memory,
@@ -212,7 +213,7 @@ pub struct Carried<F: FileStore> {
 }
 
 /// What is left of a deck that was carried out, once its files went back.
-fn settle<D: Disk>(
+pub fn settle<D: Disk>(
     machine: Machine<D::File>,
     slots: Slots<Bay<D::File>>,
     room: Vec<Remains<D::File>>,
@@ -276,15 +277,20 @@ where
 }
 
 /// Reports a run.
-fn report<F: FileStore, W: Sink>(alloc: Global, trace: bool, it: Carried<F>, out: &mut W) -> Status
+fn report<F: FileStore, W: Sink>(
+    alloc: Global,
+    middle: Middle<'_>,
+    it: Carried<F>,
+    out: &mut W,
+) -> Status
     requires { length it.left.deck.variables ≤ 4096 }
     ensures settled { IsAnswer result → it.settled ≡ Ok tt }
-    ensures ended { IsAnswer result → HasEnded trace it.left result (W.tells out.old) (W.taken out.old) (W.taken out.new) }
+    ensures ended { IsAnswer result → HasEnded (lines_of middle.entry) it.left result (W.tells out.old) (W.taken out.old) (W.taken out.new) }
     ensures of_run { IsOfRun result }
     ensures fault { (line : ℕ) → result ≡ Status.DiskFault line
-        → IsFaultReported trace it line (W.tells out.old) (W.taken out.old) (W.taken out.new) (Rose (W.count out.old) (W.count out.new)) }
-    ensures written { result ≡ Status.WriteFault → IsWriteReported trace it (W.tells out.old) (W.taken out.old) (W.taken out.new) }
-    ensures front { IsFrontReported trace it result (W.tells out.old) (W.taken out.old) (W.taken out.new) }
+        → IsFaultReported (lines_of middle.entry) it line (W.tells out.old) (W.taken out.old) (W.taken out.new) (Rose (W.count out.old) (W.count out.new)) }
+    ensures written { result ≡ Status.WriteFault → IsWriteReported (lines_of middle.entry) it (W.tells out.old) (W.taken out.old) (W.taken out.new) }
+    ensures front { IsFrontReported (lines_of middle.entry) it result (W.tells out.old) (W.taken out.old) (W.taken out.new) }
     ensures cause { HasCause ⊥ ((it.settled ≡ Err Lost.Sink) ⊎ Rose (W.count out.old) (W.count out.new)) (it.settled ≡ Err Lost.Disk) result }
     ensures telling { W.tells out.old ↔ W.tells out.new }
     ensures later { W.count out.old ≤ W.count out.new }
@@ -293,13 +299,13 @@ fn report<F: FileStore, W: Sink>(alloc: Global, trace: bool, it: Carried<F>, out
     let mut left = left;
     match settled {
         Err(Lost::Sink) => Status::WriteFault,
-        Err(Lost::Disk) => write_fault(alloc, line_of(&left), trace, &mut left.core, out),
+        Err(Lost::Disk) => write_fault(alloc, line_of(&left), middle, &mut left.core, out),
         Err(Lost::Memory(_) | Lost::Unfit) => Status::Memory,
         Ok(()) => match ending_of(&left) {
             Some(ending) => write_run(
                 alloc,
                 left.deck.variables.as_slice(),
-                trace,
+                middle,
                 ending,
                 &mut left.core,
                 out,
@@ -310,17 +316,17 @@ fn report<F: FileStore, W: Sink>(alloc: Global, trace: bool, it: Carried<F>, out
 }
 
 /// Reports a run, if there was memory to begin it.
-fn conclude<F: FileStore, W: Sink>(
+pub fn conclude<F: FileStore, W: Sink>(
     alloc: Global,
-    trace: bool,
+    middle: Middle<'_>,
     carried: Result<Carried<F>, AllocError>,
     out: &mut W,
 ) -> Status
     requires { IfOk carried (λ it. length it.left.deck.variables ≤ 4096) }
-    ensures concluded { IsConcluded W.tells W.taken W.count trace carried out.old out.new result }
+    ensures concluded { IsConcluded W.tells W.taken W.count (lines_of middle.entry) carried out.old out.new result }
 {
     match carried {
-        Ok(it) => report(alloc, trace, it, out),
+        Ok(it) => report(alloc, middle, it, out),
         Err(_) => Status::Memory,
     }
 }
@@ -335,10 +341,10 @@ pub fn execute<W: Sink, D: Disk>(
 ) -> Status
     requires sound { IsSound deck }
     requires free { D.tells disk.old → (D.held disk.old).in_use ≡ set.empty }
-    ensures executed { IsExecuted W.tells W.taken W.count D.tells D.held D.count D.refusals deck trace out.old disk.old out.new disk.new result }
+    ensures executed { IsExecuted W.tells W.taken W.count D.tells D.held D.count D.refusals deck (trace_of trace) out.old disk.old out.new disk.new result }
 {
     let carried = carry_out(alloc, deck, out, disk);
-    conclude(alloc, trace, carried, out)
+    conclude(alloc, traced(trace), carried, out)
 }
 
 /// The same with so many threads besides, or with none where no transfer of the deck has ASYNCHRONOUS='YES'.
@@ -355,9 +361,9 @@ where
     D::File: Send,
     requires sound { IsSound deck }
     requires free { D.tells disk.old → (D.held disk.old).in_use ≡ set.empty }
-    ensures executed { IsExecuted W.tells W.taken W.count D.tells D.held D.count D.refusals deck trace out.old disk.old out.new disk.new result }
+    ensures executed { IsExecuted W.tells W.taken W.count D.tells D.held D.count D.refusals deck (trace_of trace) out.old disk.old out.new disk.new result }
 {
     let workers = workers_for(deck.statements.as_slice(), workers);
     let carried = carry_out_with(rt, alloc, workers, deck, out, disk);
-    conclude(alloc, trace, carried, out)
+    conclude(alloc, traced(trace), carried, out)
 }

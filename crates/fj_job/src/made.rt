@@ -14,6 +14,7 @@ ghost use Rattle.fj_job.specs.Reply.{IsRefusal, is_condition, conditions_in, sum
 ghost use Rattle.fj_job.specs.Making.{made_text, HasMade, IsMadeFront, IsMadeReplied, TookMade};
 
 use crate::ending::{Carried, carry_out, ending_of};
+use crate::middle::Middle;
 use crate::report::{run_report, status_of, summary_report};
 use crate::task::Task;
 use crate::text::refuse_line;
@@ -116,7 +117,7 @@ fn made_report(
         Ending::ErrorStop { .. } | Ending::Prohibited { .. } => run_report(
             alloc,
             left.deck.variables.as_slice(),
-            false,
+            Middle::Nothing,
             ending,
             &left.core,
         ),

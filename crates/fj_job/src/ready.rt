@@ -50,6 +50,7 @@ fn machine_for<F: FileStore>(alloc: Global, deck: Deck) -> Result<Machine<F>, Al
     requires { IsSound deck }
     ensures begun { IfOk result (λ m. HasNotBegun F.told F.bytes m) }
     ensures deck { IfOk result (λ m. m.deck ≡ deck) }
+    ensures looks { IfOk result (λ m. m.looks.items ≡ []) }
 {
     Machine::new(alloc, deck)
 }
@@ -59,6 +60,7 @@ pub fn ready_for<F: FileStore>(alloc: Global, deck: Deck) -> Result<Ready<F>, Al
     requires { IsSound deck }
     ensures begun { IfOk result (λ it. HasNotBegun F.told F.bytes it.machine) }
     ensures deck { IfOk result (λ it. it.machine.deck ≡ deck) }
+    ensures looks { IfOk result (λ it. it.machine.looks.items ≡ []) }
     ensures fresh { IfOk result (λ it. AreFresh (bay_meaning F.told F.bytes F.count) it.slots.slots) }
     ensures empty { IfOk result (λ it. it.room.items ≡ []) }
     ensures room { IfOk result (λ it. length it.slots.slots ≤ vec_capacity it.room) }

@@ -8,9 +8,10 @@ ghost use Rattle.fj_report.specs.Lines.{status_text, check_text, summary_text};
 ghost use Rattle.fj_plain.specs.State.{elements};
 ghost use Rattle.fj_pending.specs.Plain.{tells_of};
 ghost use Rattle.fj_runner.specs.Machine.{ending_of};
-ghost use Rattle.fj_job.specs.Reply.{status_of, told_line, trace_of, shown_at, place_line, place_lines, variable_lines};
+ghost use Rattle.fj_job.specs.Reply.{status_of, told_line, lines_of, shown_at, place_line, place_lines, variable_lines};
 ghost use Rattle.fj_job.specs.Concluding.{run_text};
 
+use crate::middle::Middle;
 use fj_acts::Core;
 use fj_pending::Tell;
 use fj_report::{
@@ -71,14 +72,14 @@ fn push_tells(text: &mut Text, tells: &[Tell]) -> Result<(), AllocError>
     Ok(())
 }
 
-/// The same where they are asked for.
-fn push_trace(text: &mut Text, trace: bool, tells: &[Tell]) -> Result<(), AllocError>
-    ensures { OnOk result (text.new ≡ text.old ++ trace_of trace (tells_of tells.now)) }
+/// Adds the lines in the middle.
+fn push_middle(text: &mut Text, middle: Middle<'_>, tells: &[Tell]) -> Result<(), AllocError>
+    ensures { OnOk result (text.new ≡ text.old ++ lines_of middle.entry (tells_of tells.now)) }
 {
-    if trace {
-        push_tells(text, tells)
-    } else {
-        Ok(())
+    match middle {
+        Middle::Nothing => Ok(()),
+        Middle::Trace => push_tells(text, tells),
+        Middle::Given(lines) => text.push_all(lines),
     }
 }
 
@@ -146,30 +147,35 @@ fn push_variables(text: &mut Text, store: &Store, variables: &[Variable]) -> Res
     Ok(())
 }
 
-/// The lines of a run behind its output: the transfers that were told, how the deck ended, and its variables.
+/// The lines of a run behind its output: those in the middle, how the deck ended, and its variables.
 pub fn run_report(
     alloc: Global,
     variables: &[Variable],
-    trace: bool,
+    middle: Middle<'_>,
     ending: Ending,
     core: &Core,
 ) -> Result<Text, AllocError>
     requires { length variables.now ≤ 4096 }
-    ensures { IfOk result (λ text. text ≡ run_text variables.now trace (ending_of ending) core.now) }
+    ensures { IfOk result (λ text. text ≡ run_text variables.now (lines_of middle.entry) (ending_of ending) core.now) }
 {
     let mut text = Text::new(alloc);
-    push_trace(&mut text, trace, core.tells.as_slice())?;
+    push_middle(&mut text, middle, core.tells.as_slice())?;
     status_line(&status_of(ending), &mut text)?;
     push_variables(&mut text, &core.store, variables)?;
     Ok(text)
 }
 
 /// The lines of a run that a fault of the disk cut at a line.
-pub fn fault_report(alloc: Global, trace: bool, line: u32, core: &Core) -> Result<Text, AllocError>
-    ensures { IfOk result (λ text. text ≡ trace_of trace (tells_of core.now.tells) ++ status_text (Status.DiskFault line)) }
+pub fn fault_report(
+    alloc: Global,
+    middle: Middle<'_>,
+    line: u32,
+    core: &Core,
+) -> Result<Text, AllocError>
+    ensures { IfOk result (λ text. text ≡ lines_of middle.entry (tells_of core.now.tells) ++ status_text (Status.DiskFault line)) }
 {
     let mut text = Text::new(alloc);
-    push_trace(&mut text, trace, core.tells.as_slice())?;
+    push_middle(&mut text, middle, core.tells.as_slice())?;
     status_line(&Status::DiskFault { stmt: line }, &mut text)?;
     Ok(text)
 }

@@ -24,7 +24,7 @@ fn has_later(statements: &[Lined]) -> bool
 
 /// As many as are asked for; none where no statement can leave a transfer pending, since the thread that carries out the deck then
 /// performs each job itself.
-pub(crate) fn workers_for(statements: &[Lined], workers: u32) -> u32
+pub fn workers_for(statements: &[Lined], workers: u32) -> u32
     ensures { result ≡ (if list_any (λ lined. is_later lined.what) statements.now then workers else 0) }
 {
     if has_later(statements) { workers } else { 0 }

@@ -3,10 +3,11 @@ use Rattle.fj_bay.specs.Meaning.{bay_meaning}
 use Rattle.fj_plain.specs.Statement.{stated}
 use Rattle.fj_turns.specs.Serving.{first_run, fresh_slots}
 use Rattle.fj_units.specs.Files.{files_of}
+use Rattle.fj_looks.proofs.Losing.{lost_at}
 use Rattle.fj_closing.proofs.Ended.{bays_full}
 use Rattle.fj_job.proofs.Fresh.{owed, fresh_at, fit}
-use Rattle.fj_job.proofs.Leading.{runner_rests}
-use Rattle.fj_job.proofs.Carried.{showing, has_run}
+use Rattle.fj_job.proofs.Leading.{leaves_same, but_deck, runner_rests}
+use Rattle.fj_job.proofs.Served.{showing, has_run}
 use Rattle.fj_job.proofs.CutRuns.{run_cut}
 use Rattle.fj_job.proofs.CutEnds.{has_ended}
 use Rattle.fj_job.proofs.carrying.carry.Goals as goal
@@ -85,6 +86,8 @@ returns-clause-cut g c = λ t sound over.
     let alone = c.run_alone.ensures.alone first fresh_slots known c.requires.begins.running (fit meaning c.args.slots.now c.requires.fresh) in
     let lost = c.run_alone.ensures.gave_up first fresh_slots known c.requires.begins.running c.requires.begins.going (fit meaning c.args.slots.now c.requires.fresh) (sym (ap (λ k. k.tally.over) m) ∙ over) in
     rw (o, d, m) (run_cut meaning _ g.W.Sink.tells g.W.Sink.taken g.W.Sink.count g.D.Disk.tells g.D.Disk.count g.D.Disk.refusals g.D.Disk.told g.D.Disk.held g.D.File.FileStore.told g.D.File.FileStore.bytes
-    (λ r. r.out.now) (λ r. r.disk.now) (λ r. r.machine.now) old.deck files _ c.run_alone.new.script c.run_alone.new.slots alone lost
-    (record { over = λ a. refl; stopped = λ a. refl; state = λ a. refl; due = λ a. refl; leaves = λ a b h. h.leaves; gives_up = λ a b h. h.gives_up; asking = λ a b h. h.asking; stays = λ a b h. h.stays; reason = λ a b h. h.reason; keeps = λ a b h. h.keeps }) sound c.requires.begins refl t
+    (λ r. r.out.now) (λ r. r.disk.now) (λ r. r.machine.now) old.deck files c.args.out.now c.args.disk.now old (stated old.deck.statements)
+    _ c.run_alone.new.script c.run_alone.new.slots (λ _. alone) (lost_at meaning _ first fresh_slots (stated old.deck.statements) _ _ _ lost)
+    (record { over = λ a. refl; stopped = λ a. refl; state = λ a. refl; due = λ a. refl; leaves = λ a b h. h.leaves; gives_up = λ a b h. h.gives_up; asking = λ a b h. h.asking; stays = λ a b h. h.stays; reason = λ a b h. h.reason; keeps = λ a b h. h.keeps }) sound c.requires.begins
+    (but_deck g.W.Sink.tells g.W.Sink.taken g.W.Sink.count g.D.Disk.tells g.D.Disk.count g.D.Disk.refusals _ _ _ _ _ _ (leaves_same g.W.Sink.tells g.W.Sink.taken g.W.Sink.count g.D.Disk.tells g.D.Disk.count g.D.Disk.refusals c.args.out.now c.args.disk.now old)) refl t
     (bays_full g.D.File.FileStore.told g.D.File.FileStore.bytes g.D.File.FileStore.count))

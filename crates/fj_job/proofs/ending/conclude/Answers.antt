@@ -1,9 +1,10 @@
-use Rattle.fj_job.proofs.CarriedOut.{concluded, unbegun}
+use Rattle.fj_job.specs.Reply.{lines_of}
+use Rattle.fj_job.proofs.CarriedOut.{concluded, unreported}
 use Rattle.fj_job.proofs.ending.conclude.Goals as goal
 
 pub returns-in-Ok : goal.returns-in-Ok
 returns-in-Ok g c = record {
-  concluded = concluded g.W.Sink.tells g.W.Sink.taken g.W.Sink.count c.args.trace c.args.carried c.in-Ok.it c.args.out.now c.report.new.out c.report.result c.in-Ok.is
+  concluded = concluded g.W.Sink.tells g.W.Sink.taken g.W.Sink.count (lines_of c.args.middle) c.args.carried c.in-Ok.it c.args.out.now c.report.new.out c.report.result c.in-Ok.is
       (record {
         settled = c.report.ensures.settled;
         ended = c.report.ensures.ended;
@@ -20,4 +21,4 @@ returns-in-Ok g c = record {
 }
 
 pub returns-in-Err : goal.returns-in-Err
-returns-in-Err g c = record { concluded = unbegun g.W.Sink.tells g.W.Sink.taken g.W.Sink.count c.args.trace c.args.carried _ c.args.out.now c.in-Err.is }
+returns-in-Err g c = record { concluded = unreported g.W.Sink.tells g.W.Sink.taken g.W.Sink.count (lines_of c.args.middle) c.args.carried c.args.out.now }

@@ -21,6 +21,7 @@ returns g c = record {
     ending = ap (λ l. l.ending) c.give_all-settled.ensures.left ∙ c.into_left-left.ensures.ending;
     over = ap (λ l. l.over) c.give_all-settled.ensures.left ∙ c.into_left-left.ensures.over;
     at = ap (λ l. l.at) c.give_all-settled.ensures.left ∙ c.into_left-left.ensures.at;
+    looks = ap (λ l. l.looks) c.give_all-settled.ensures.left ∙ c.into_left-left.ensures.looks;
     nothing = λ s. sym c.into_left-left.ensures.lost ∙ where_ok _ _ _ s c.give_all-settled.ensures.nothing;
     closed = λ t fit.
         let meaning = bay_meaning g.D.File.FileStore.told g.D.File.FileStore.bytes g.D.File.FileStore.count in
