@@ -7,7 +7,7 @@ ghost use Rattle.fj_batch.specs.Members.{IsNew};
 use crate::help::PAGE;
 use fj_batch::{BatchStatus, Hears, Member, MemberList, member_names, run_batch};
 use fj_exit::exit_status;
-use fj_job::Status;
+use fj_poll::Status;
 use fj_real::{FileSource, PartDisk, RealOutput, RealSink};
 use fj_value::Text;
 use std::alloc::{AllocError, Global};

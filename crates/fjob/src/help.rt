@@ -10,6 +10,8 @@ input and its report goes to standard output; its files are those of the folder 
 
     fjob alone [--trace]               carry out the deck on one thread
     fjob run [--workers N] [--trace]   the same with N workers beside, 0 to 64, without --workers 4
+    fjob poll [--workers N]            the same, but that INQUIRE answers PENDING= by what the workers have done by then;
+                                       a line tells each such look: the statement's line, unit, answer, jobs done
     fjob check                         read the deck, and carry nothing out
     fjob gen --seed N --count M [--text]
                                        make a deck of M transfers, 0 to 20000, from the seed N, 0 to 2147483647, and carry

@@ -2,16 +2,19 @@
 #![tactic(auto)]
 
 mod batch;
+mod carrying;
 mod conditions;
 mod help;
 mod refused;
+mod rules;
 mod told;
 mod wrong;
 
 use crate::batch::{batch, is_batch};
+use crate::carrying::carry_out;
 use crate::told::{Seen, tell};
 use fj_exit::exit_status;
-use fj_job::{Status, run_job};
+use fj_poll::Status;
 use fj_real::{Kept, RealDisk, RealOutput, RealSink, RealSource, hold_standard_numbers};
 use std::alloc::AllocError;
 use std::env;
@@ -91,7 +94,7 @@ fn main(rt: HostRuntime) -> ExitCode {
     let mut deck = Kept::new(rt.alloc(), RealSource::new(rt.stdin()));
     let mut out = RealSink::new(RealOutput::new(output, rt.stdout()));
     let mut disk = RealDisk::new(rt.alloc(), files);
-    let status = run_job(&rt, rt.alloc(), &words, &mut deck, &mut out, &mut disk);
+    let status = carry_out(&rt, rt.alloc(), &words, &mut deck, &mut out, &mut disk);
     tell_end(&rt, &words, status, &deck, &out, &disk);
     ExitCode::from(exit_status(status))
 }

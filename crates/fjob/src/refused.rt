@@ -1,6 +1,6 @@
 // What a person is told of a text that is no deck: the line, the column, what is wrong, and the deck's line.
 use fj_explain::{Explanation, explain};
-use fj_job::Reason;
+use fj_poll::Reason;
 use std::alloc::{AllocError, Global};
 use std::io::{self, Write};
 

@@ -2,10 +2,10 @@
 use crate::conditions::condition_words;
 use crate::help::{PAGE, VERSION, is_help};
 use crate::refused::tell_refused;
+use crate::rules::tell_prohibited;
 use crate::wrong::what_is_wrong;
-use fj_job::Status;
+use fj_poll::Status;
 use fj_real::{Failure, Why};
-use fj_value::Rule;
 use std::alloc::Global;
 use std::io::{Result, Write};
 
@@ -20,20 +20,6 @@ pub struct Seen<'a> {
     pub written: Option<Why>,
     /// The files on which calls failed.
     pub failures: &'a [Failure],
-}
-
-/// A prohibition in words.
-fn rule_words(rule: Rule) -> &'static str {
-    match rule {
-        Rule::P1 =>
-            "P1: the statement references a variable of a pending input; a WAIT has to stand before it",
-        Rule::P2 =>
-            "P2: the statement defines a variable of a pending transfer; a WAIT has to stand before it",
-        Rule::P3 => "P3: the statement references a variable that is not defined",
-        Rule::P4 => "P4: ID= is not the identifier of a transfer that is pending on the unit",
-        Rule::P5 =>
-            "P5: the statement defines a variable by a specifier, and by another or as an item too, or has an item in its internal file",
-    }
 }
 
 /// Tells the files on which calls failed, and why.
@@ -83,9 +69,7 @@ pub fn tell<W: Write>(
                 condition_words(code)
             )
         }
-        Status::Prohibited { stmt, rule } => {
-            writeln!(err, "fjob: line {stmt}: prohibition {}", rule_words(rule))
-        }
+        Status::Prohibited { stmt, rule } => tell_prohibited(err, alloc, stmt, rule, seen.text),
         Status::DeckRefused { line, reason } => tell_refused(err, alloc, line, reason, seen.text),
         Status::Usage => tell_usage(err, words),
         Status::ReadFault => tell_why(err, "standard input could not be read", seen.read),

@@ -11,7 +11,7 @@ struct Known {
 }
 
 /// The options of each command.
-static OPTIONS: [Known; 6] = [
+static OPTIONS: [Known; 7] = [
     Known {
         command: "run",
         option: "--workers",
@@ -21,6 +21,11 @@ static OPTIONS: [Known; 6] = [
         command: "run",
         option: "--trace",
         most: None,
+    },
+    Known {
+        command: "poll",
+        option: "--workers",
+        most: Some(64),
     },
     Known {
         command: "alone",
@@ -45,7 +50,7 @@ static OPTIONS: [Known; 6] = [
 ];
 
 /// The commands.
-static COMMANDS: [&str; 4] = ["run", "alone", "check", "gen"];
+static COMMANDS: [&str; 5] = ["run", "alone", "poll", "check", "gen"];
 
 /// What is wrong with words.
 #[derive(Clone, Copy)]

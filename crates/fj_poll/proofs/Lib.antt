@@ -1,0 +1,11 @@
+pub mod Other
+pub mod Standing
+pub mod Clear
+pub mod Putting
+pub mod Looked
+pub mod Stretched
+pub mod Cuts
+pub mod Sends
+pub mod UnderWay
+pub mod Executed
+pub mod Polled

@@ -1,0 +1,4 @@
+pub mod Looks
+pub mod Stretches
+pub mod Lines
+pub mod Answers

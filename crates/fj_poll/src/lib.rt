@@ -1,0 +1,10 @@
+//! Runs in which INQUIRE with PENDING= is answered by what the workers have done.
+#![tactic(auto)]
+
+mod carrying;
+mod executing;
+mod poll;
+mod usage;
+
+pub use fj_job::{Reason, Status, run_job};
+pub use poll::poll_job;

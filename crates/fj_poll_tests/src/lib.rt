@@ -1,0 +1,5 @@
+//! Tests of runs with looks.
+#![tactic(auto)]
+
+#[cfg(test)]
+mod rows;
