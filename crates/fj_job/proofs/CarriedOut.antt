@@ -1,5 +1,5 @@
 -- A deck that was carried out on slots of its own, and whose files went back.
-use Rattle.std.proofs.Common.{◌≡◌, ◌⊎◌, inl, inr, ◌≤◌, ℕ, Bool, true, false, List, [], Result, Ok, Err, Some, None, refl, ap, sym, ◌∙◌, subst, arith}
+use Rattle.std.proofs.Common.{◌≡◌, ◌⊎◌, inl, inr, ◌≤◌, ℕ, Bool, true, false, List, [], Result, Ok, Err, Some, None, IfOk, refl, ap, sym, ◌∙◌, subst, arith}
 use Rattle.fj_outside.specs.Faults.{Rose}
 use Rattle.std.specs.FinSet as set
 use Rattle.fj_outside.specs.Holdings.{Holdings}
@@ -21,7 +21,7 @@ use Rattle.fj_job.specs.Carrying.{HasNotBegun, HasRun, LeavesButDeck}
 use Rattle.fj_report.specs.declared.status.Status.{Status}
 use Rattle.fj_report.specs.declared.status.Status.TheVariants.{WriteFault, DiskFault, Memory}
 use Rattle.fj_job.specs.Answers.{IsAnswer, HasCause}
-use Rattle.fj_job.specs.Cut.{Carried as At, CutByMemory}
+use Rattle.fj_job.specs.Cut.{BeginsAt, BeginsWhere, CutByMemory}
 use Rattle.fj_job.specs.Cutting.{IsCut, EndsHere, IsLeftAt, IsLeftBegun, TookSome}
 use Rattle.fj_job.specs.Losing.{wants}
 use Rattle.fj_job.specs.Executing.{IsSettled, IsCarriedOut, IsConcluded, IsExecuted}
@@ -38,6 +38,11 @@ use Rattle.fj_job.proofs.Whole.{ended_fit}
 cause_by : (P Q : Type 0) (a b c : ℕ) → a ≤ b → b ≤ c → (P → Q ⊎ Rose a b) → (Q → ⊥) → P ⊎ Rose b c → Rose a c
 cause_by P Q a b c l k one none (inr rose) = rose_earlier a b c l rose
 cause_by P Q a b c l k one none (inl p) = elim (one p) [ inl q ↦ absurd (none q) | inr rose ↦ rose_later a b c rose k ]
+
+-- nothing is known of it
+pub anywhere : {X E : Type 0} → (r : Result X E) → IfOk r (λ _. Unit {0})
+anywhere (Ok it) = tt
+anywhere (Err e) = tt
 
 module _ {W D F : Type 0} (tells_out : W → Type 0) (taken : W → List ℕ) (count_out : W → ℕ) (tells : D → Type 0) (held : D → Holdings) (count refusals : D → ℕ) where
   pub carried_out : {ghosts : Ghosts F} {E J A X : Type 0} (meaning : Meaning E J A Bay Job Answer) (told : F → Bool) (bytes : F → List ℕ) (deck : Deck) (out : W) (disk : D) (out' : W) (disk' disk'' : D) (m m' : Machine F ghosts) (rack' : Rack E J A) (it : Carried F)
@@ -71,8 +76,10 @@ module _ {W D F : Type 0} (tells_out : W → Type 0) (taken : W → List ℕ) (c
             (came meaning told bytes deck deck (files_of (held disk)) (files_of (held disk')) (files_of (held disk'')) m' rack' it.left
             (ran t (sym settled.over ∙ going)) refl settled.core settled.ending ((closed t).files s (none_kept going)));
         at_want = λ t lines.
+            let cut =
             cut_by_memory meaning rack' (held disk') (held disk'') (refusals disk) (refusals disk') (refusals disk'') (tells_out out) (taken out) (taken out') deck (files_of (held disk)) m' sound_deck (there t)
-            it.settled (closed t) (leaves.own t) (settled.own (leaves.telling.0 t)) lines;
+            it.settled (closed t) (leaves.own t) (settled.own (leaves.telling.0 t)) lines in
+            (cut.0, subst (BeginsAt cut.0.comes) (sym settled.at) cut.1);
         part = λ t w.
             took_some meaning rack' (held disk') (refusals disk) (refusals disk') (tells_out out) (taken out) (taken out') deck (files_of (held disk)) m' (there t) w;
         result_is = λ t s going. came meaning told bytes deck deck (files_of (held disk)) (files_of (held disk')) (files_of (held disk'')) m' rack' it.left
@@ -104,31 +111,32 @@ module _ {W D F : Type 0} (tells_out : W → Type 0) (taken : W → List ℕ) (c
       (carried_out meaning told bytes m.deck out disk out' disk' disk'' m m' rack' it begun (but_deck tells_out taken count_out tells count refusals out out' disk disk' m m' leaves) leaves.deck ran cut ended on
       (subst IsSound (sym same) sound_deck) settled)
 
-  conclude_ok : {X : Type 0} (deck : Deck) (lines : Lines) (out : W) (disk : D) (out' : W) (disk' : D) (out'' : W) (it : Carried F) (status : Status)
+  conclude_ok : {X : Type 0} (deck : Deck) (lines : Lines) (Place : ℕ → Type 0) (out : W) (disk : D) (out' : W) (disk' : D) (out'' : W) (it : Carried F) (status : Status)
       → IsSound deck
       → (let r : Result (Carried F) X = Ok it in IsCarriedOut tells_out taken count_out tells held count refusals deck out disk out' disk' r)
-      → (let r : Result (Carried F) X = Ok it in IsConcluded tells_out taken count_out lines r out' out'' status)
-      → IsExecuted tells_out taken count_out tells held count refusals deck lines out disk out'' disk' status
-  conclude_ok deck lines out disk out' disk' out'' it status sound carried h = record {
+      → (let r : Result (Carried F) X = Ok it in IsConcluded tells_out taken count_out lines r out' out'' status) → (tells disk → Place it.left.at)
+      → IsExecuted tells_out taken count_out tells held count refusals deck lines Place out disk out'' disk' status
+  conclude_ok deck lines Place out disk out' disk' out'' it status sound carried h known = record {
     replied = λ a t. let ended = h.ended a in let settled = h.settled a in
         replies deck lines it.left (held disk).files (held disk').files status (tells_out out) (tells_out out') _ _ _ carried.telling_out.0 carried.deck_is
         (carried.result_is t settled ended.going) ended (λ w. carried.taken_is w (inl settled));
     fault = λ t. fault_by status _ (λ line e. let told = h.fault line e in
-        told_fault deck lines it (held disk).files (held disk').files (held disk') (refusals disk) (refusals disk') (taken out) (taken out') (taken out'') carried.deck_is line (tells_out out) (tells_out out') (Rose (count_out out') (count_out out''))
-        (Rose (count_out out) (count_out out'')) carried.telling_out.0 (rose_earlier _ _ _ carried.later_out) (carried.at_fault t told.settled) told (λ w. carried.taken_is w (inr told.settled)));
+        let cut = told_fault deck lines it (held disk).files (held disk').files (held disk') (refusals disk) (refusals disk') (taken out) (taken out') (taken out'') carried.deck_is line (tells_out out) (tells_out out') (Rose (count_out out') (count_out out''))
+        (Rose (count_out out) (count_out out'')) carried.telling_out.0 (rose_earlier _ _ _ carried.later_out) (carried.at_fault t told.settled) told (λ w. carried.taken_is w (inr told.settled)) in (cut.0, (it.left.at, cut.1, known t)));
     written = λ t. write_by status _ (λ e. elim (h.written e) [
-      | inl (settled, still) ↦ write_of_begun deck lines it (held disk).files (held disk').files (held disk') (refusals disk) (refusals disk') (taken out) (taken out') (taken out'') carried.deck_is (tells_out out) (carried.at_write t settled) still
+      | inl (settled, still) ↦ let cut = write_of_begun deck lines it (held disk).files (held disk').files (held disk') (refusals disk) (refusals disk') (taken out) (taken out') (taken out'') carried.deck_is (tells_out out) (carried.at_write t settled) still in (cut.0, (it.left.at, cut.1, known t))
       | inr f ↦ let x = carried.at_end t f.settled f.going f.ending f.ends in
-          write_of_end deck lines it (held disk).files (held disk').files (held disk') (refusals disk) (refusals disk') (taken out) (taken out') (taken out'') carried.deck_is (tells_out out) (tells_out out') carried.telling_out.0 x.0 x.1
-          (carried.result_is t f.settled f.going) f (λ w. carried.taken_is w (inl f.settled))
+          let cut = write_of_end deck lines it (held disk).files (held disk').files (held disk') (refusals disk) (refusals disk') (taken out) (taken out') (taken out'') carried.deck_is (tells_out out) (tells_out out') carried.telling_out.0 x.0 x.1
+          (carried.result_is t f.settled f.going) f (λ w. carried.taken_is w (inl f.settled)) in (cut.0, (it.left.at, cut.1, known t))
     ]);
     memory = λ t. want_by status _ (λ e. inr (elim h.front [
-      | inl still ↦ subst (λ (x : List ℕ). CutByMemory deck lines (files_of (held disk)) (tells_out out) (taken out) x (held disk') (refusals disk) (refusals disk')) (sym still) (carried.at_want t lines)
-      | inr (inl f) ↦ want_of_fault deck lines it (held disk).files (held disk').files (held disk') (refusals disk) (refusals disk') (taken out) (taken out') (taken out'') carried.deck_is status (tells_out out) (tells_out out')
-          carried.telling_out.0 (carried.at_fault t f.settled) f (λ w. carried.taken_is w (inr f.settled))
+      | inl still ↦ subst (λ (x : List ℕ). (cut : CutByMemory deck lines (files_of (held disk)) (tells_out out) (taken out) x (held disk') (refusals disk) (refusals disk')) × BeginsWhere Place cut.comes) (sym still)
+          (let cut = carried.at_want t lines in (cut.0, (it.left.at, cut.1, known t)))
+      | inr (inl f) ↦ let cut = want_of_fault deck lines it (held disk).files (held disk').files (held disk') (refusals disk) (refusals disk') (taken out) (taken out') (taken out'') carried.deck_is status (tells_out out) (tells_out out')
+          carried.telling_out.0 (carried.at_fault t f.settled) f (λ w. carried.taken_is w (inr f.settled)) in (cut.0, (it.left.at, cut.1, known t))
       | inr (inr f) ↦ let x = carried.at_end t f.settled f.going f.ending f.ends in
-          want_of_end deck lines it (held disk).files (held disk').files (held disk') (refusals disk) (refusals disk') (taken out) (taken out') (taken out'') carried.deck_is (tells_out out) (tells_out out') carried.telling_out.0
-          x.0 x.1 (carried.result_is t f.settled f.going) f (λ w. carried.taken_is w (inl f.settled))
+          let cut = want_of_end deck lines it (held disk).files (held disk').files (held disk') (refusals disk) (refusals disk') (taken out) (taken out') (taken out'') carried.deck_is (tells_out out) (tells_out out') carried.telling_out.0
+          x.0 x.1 (carried.result_is t f.settled f.going) f (λ w. carried.taken_is w (inl f.settled)) in (cut.0, (it.left.at, cut.1, known t))
     ]));
     front = λ t w. elim h.front [
       | inl e ↦ inl (part_of_run deck lines (files_of (held disk)) (taken out) (taken out'') sound
@@ -150,12 +158,12 @@ module _ {W D F : Type 0} (tells_out : W → Type 0) (taken : W → List ℕ) (c
     later = carried.later;
   }
 
-  conclude_err : {X : Type 0} (deck : Deck) (lines : Lines) (out : W) (disk : D) (out' : W) (disk' : D) (out'' : W) (e : X) (status : Status)
+  conclude_err : {X : Type 0} (deck : Deck) (lines : Lines) (Place : ℕ → Type 0) (out : W) (disk : D) (out' : W) (disk' : D) (out'' : W) (e : X) (status : Status)
       → IsSound deck → (tells disk → (held disk).in_use ≡ set.empty)
       → (let r : Result (Carried F) X = Err e in IsCarriedOut tells_out taken count_out tells held count refusals deck out disk out' disk' r)
       → (let r : Result (Carried F) X = Err e in IsConcluded tells_out taken count_out lines r out' out'' status)
-      → IsExecuted tells_out taken count_out tells held count refusals deck lines out disk out'' disk' status
-  conclude_err deck lines out disk out' disk' out'' e status sound free carried h = record {
+      → IsExecuted tells_out taken count_out tells held count refusals deck lines Place out disk out'' disk' status
+  conclude_err deck lines Place out disk out' disk' out'' e status sound free carried h = record {
     replied = λ a t. absurd (subst (λ (s : Status). IsAnswer s) h.begun a);
     fault = λ t. fault_by status _ (λ line f. absurd (let z : Memory ≡ DiskFault line = sym h.begun ∙ f in cc));
     written = λ t. write_by status _ (λ f. absurd (let z : Memory ≡ WriteFault = sym h.begun ∙ f in cc));
@@ -171,11 +179,11 @@ module _ {W D F : Type 0} (tells_out : W → Type 0) (taken : W → List ℕ) (c
     later = carried.later;
   }
 
-  pub executed : {X : Type 0} (deck : Deck) (lines : Lines) (out : W) (disk : D) (out' : W) (disk' : D) (out'' : W) (carried : Result (Carried F) X) (status : Status)
+  pub executed : {X : Type 0} (deck : Deck) (lines : Lines) (Place : ℕ → Type 0) (out : W) (disk : D) (out' : W) (disk' : D) (out'' : W) (carried : Result (Carried F) X) (status : Status)
       → IsSound deck → (tells disk → (held disk).in_use ≡ set.empty) → IsCarriedOut tells_out taken count_out tells held count refusals deck out disk out' disk' carried → IsConcluded tells_out taken count_out lines carried out' out'' status
-      → IsExecuted tells_out taken count_out tells held count refusals deck lines out disk out'' disk' status
-  executed deck lines out disk out' disk' out'' (Ok it) status sound free carried h = conclude_ok deck lines out disk out' disk' out'' it status sound carried h
-  executed deck lines out disk out' disk' out'' (Err e) status sound free carried h = conclude_err deck lines out disk out' disk' out'' e status sound free carried h
+      → (tells disk → IfOk carried (λ it. Place it.left.at)) → IsExecuted tells_out taken count_out tells held count refusals deck lines Place out disk out'' disk' status
+  executed deck lines Place out disk out' disk' out'' (Ok it) status sound free carried h known = conclude_ok deck lines Place out disk out' disk' out'' it status sound carried h known
+  executed deck lines Place out disk out' disk' out'' (Err e) status sound free carried h known = conclude_err deck lines Place out disk out' disk' out'' e status sound free carried h
 
 -- a run is reported
 pub concluded : {W F X : Type 0} (tells_out : W → Type 0) (taken : W → List ℕ) (count_out : W → ℕ) (lines : Lines) (carried : Result (Carried F) X) (it : Carried F) (out out' : W) (status : Status) → carried ≡ Ok it

@@ -108,12 +108,12 @@ opens_kept (Some c) names us vs there st more h same opens = sym opens ∙ sym (
 
 -- ---- the ask at hand
 
-hand_idle : (hand : Hand) → due_of hand ≡ conduct.Idle → hand ≡ Idle
+pub hand_idle : (hand : Hand) → due_of hand ≡ conduct.Idle → hand ≡ Idle
 hand_idle Idle e = refl
 hand_idle (Submitting slot) e = cc
 hand_idle (Settling slot) e = cc
 
-hand_asks : (hand : Hand) (ask : Ask Job) → ask ≢ Finished → IsDueAsk (due_of hand) ask → hand ≢ Idle
+pub hand_asks : (hand : Hand) (ask : Ask Job) → ask ≢ Finished → IsDueAsk (due_of hand) ask → hand ≢ Idle
 hand_asks hand (Submit slot job) some due idle = absurd (let z : conduct.Idle ≡ conduct.Submitting slot = sym (ap due_of idle) ∙ due in cc)
 hand_asks hand (Settle slot) some due idle = absurd (let z : conduct.Idle ≡ conduct.Settling slot = sym (ap due_of idle) ∙ due in cc)
 hand_asks hand Finished some due idle = some refl

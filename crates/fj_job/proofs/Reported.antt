@@ -239,14 +239,17 @@ module _ {F : Type 0} (deck : Deck) (lines : Lines) (it : Carried F) (before now
 
   -- a fault that was told
   pub told_fault : (line : ℕ) (Tells Now Failed Failed' : Type 0) → (Tells → Now) → (Failed → Failed') → IsLeftAt deck (files_in before) it.left left own own'
-      → IsFaultReported lines it line Now mid new Failed → (Tells → mid ≡ old ++ whole_records it.left.core.output) → CutByDisk deck lines (files_in before) line Tells old new Failed' left own own'
+      → IsFaultReported lines it line Now mid new Failed → (Tells → mid ≡ old ++ whole_records it.left.core.output) → (cut : CutByDisk deck lines (files_in before) line Tells old new Failed' left own own') × BeginsAt cut.1.comes it.left.at
   unfolding fault_reported
   told_fault line Tells Now Failed Failed' on later at fault one = (
-    whole_records it.left.core.output ++ fault_text lines line it.left.core.output (tells_of it.left.core.tells),
-    fault_reported deck (files_in before) it.left left own own' at lines line (line_by at line fault.line_is),
-    at.files_are,
-    at.learnt,
-    λ t. elim (fault.taken (on t)) [ inl e ↦ inl (taken_both old mid new _ _ (one t) e) | inr f ↦ inr (later f.0, part_behind old mid new _ _ (one t) f.1) ],
+    (
+      whole_records it.left.core.output ++ fault_text lines line it.left.core.output (tells_of it.left.core.tells),
+      fault_reported deck (files_in before) it.left left own own' at lines line (line_by at line fault.line_is),
+      at.files_are,
+      at.learnt,
+      λ t. elim (fault.taken (on t)) [ inl e ↦ inl (taken_both old mid new _ _ (one t) e) | inr f ↦ inr (later f.0, part_behind old mid new _ _ (one t) f.1) ],
+    ),
+    at.at,
   )
 
   pub report_of_fault : (status : Status) (Tells : Type 0) → Tells → IsLeftAt deck (files_in before) it.left left own own' → IsFaultBegun lines it status Tells mid new → mid ≡ old ++ whole_records it.left.core.output
@@ -261,20 +264,22 @@ module _ {F : Type 0} (deck : Deck) (lines : Lines) (it : Carried F) (before now
 
   -- memory was wanting in it
   pub want_of_fault : (status : Status) (Tells Now : Type 0) → (Tells → Now) → (at : IsLeftAt deck (files_in before) it.left left own own') → IsFaultBegun lines it status Now mid new
-      → (Tells → mid ≡ old ++ whole_records it.left.core.output) → CutByMemory deck lines (files_in before) Tells old new left own own'
+      → (Tells → mid ≡ old ++ whole_records it.left.core.output) → (cut : CutByMemory deck lines (files_in before) Tells old new left own own') × BeginsAt cut.comes it.left.at
   unfolding fault_reported
   want_of_fault status Tells Now on at fault one =
       let line = line_by at fault.line fault.line_is in
-      let report = fault_reported deck (files_in before) it.left left own own' at lines fault.line line in
-      record {
-        comes = at.comes;
-        reach = at.reach;
-        may = at.may;
-        due = whole_records it.left.core.output ++ fault_text lines fault.line it.left.core.output (tells_of it.left.core.tells);
-        written = inr (report.output_is ∙ ap (λ n. fault_report lines n (reached at.reach deck.variables at.comes.statement at.comes.before)) (sym line));
-        taken = λ t. front_behind old mid new _ _ (one t) (fault.taken (on t));
-        files_are = at.files_are.others;
-      }
+      let report = fault_reported deck (files_in before) it.left left own own' at lines fault.line line in (
+        record {
+          comes = at.comes;
+          reach = at.reach;
+          may = at.may;
+          due = whole_records it.left.core.output ++ fault_text lines fault.line it.left.core.output (tells_of it.left.core.tells);
+          written = inr (report.output_is ∙ ap (λ n. fault_report lines n (reached at.reach deck.variables at.comes.statement at.comes.before)) (sym line));
+          taken = λ t. front_behind old mid new _ _ (one t) (fault.taken (on t));
+          files_are = at.files_are.others;
+        },
+        at.at,
+      )
 
   -- what is told where the deck ended: the records that ended, and the report behind them
   reply_of_end : (Took : List ℕ → Type 0) → IsResult (plain_execution deck.variables deck.statements (files_in before)) (files_in now) it.left → IsEndBegun lines it Took
@@ -295,47 +300,54 @@ module _ {F : Type 0} (deck : Deck) (lines : Lines) (it : Carried F) (before now
 
   -- memory was wanting in the report
   pub want_of_end : (Tells Now : Type 0) → (Tells → Now) → (x : IsLeftAt deck (files_in before) it.left left own own') → x.reach ≡ At → IsResult (plain_execution deck.variables deck.statements (files_in before)) (files_in now) it.left
-      → IsEndBegun lines it (λ due. Now → TakesFront mid new due) → (Tells → mid ≡ old ++ whole_records it.left.core.output) → CutByMemory deck lines (files_in before) Tells old new left own own'
+      → IsEndBegun lines it (λ due. Now → TakesFront mid new due) → (Tells → mid ≡ old ++ whole_records it.left.core.output) → (cut : CutByMemory deck lines (files_in before) Tells old new left own own') × BeginsAt cut.comes it.left.at
   want_of_end Tells Now on x reach is ended one =
-      let r = reply_of_end (λ due. Now → TakesFront mid new due) is ended in
-      record {
-        comes = x.comes;
-        reach = x.reach;
-        may = x.may;
-        due = r.0.output;
-        written = inl (subst (λ (k : Reach). IsNext k deck lines (files_in before) x.comes r.0.output) (sym reach) (r.0, r.1, refl));
-        taken = λ t. subst (λ (y : List ℕ). TakesFront old new y) (sym r.3) (front_behind old mid new _ r.2 (one t) (r.4 (on t)));
-        files_are = x.files_are.others;
-      }
+      let r = reply_of_end (λ due. Now → TakesFront mid new due) is ended in (
+        record {
+          comes = x.comes;
+          reach = x.reach;
+          may = x.may;
+          due = r.0.output;
+          written = inl (subst (λ (k : Reach). IsNext k deck lines (files_in before) x.comes r.0.output) (sym reach) (r.0, r.1, refl));
+          taken = λ t. subst (λ (y : List ℕ). TakesFront old new y) (sym r.3) (front_behind old mid new _ r.2 (one t) (r.4 (on t)));
+          files_are = x.files_are.others;
+        },
+        x.at,
+      )
 
   -- a fault of the sink in the report
   pub write_of_end : (Tells Now : Type 0) → (Tells → Now) → (x : IsLeftAt deck (files_in before) it.left left own own') → x.reach ≡ At → IsResult (plain_execution deck.variables deck.statements (files_in before)) (files_in now) it.left
-      → IsEndBegun lines it (λ due. Now → TakesPart mid new due) → (Tells → mid ≡ old ++ whole_records it.left.core.output) → CutBySink deck lines (files_in before) Tells old new left own own'
+      → IsEndBegun lines it (λ due. Now → TakesPart mid new due) → (Tells → mid ≡ old ++ whole_records it.left.core.output) → (cut : CutBySink deck lines (files_in before) Tells old new left own own') × BeginsAt cut.comes it.left.at
   write_of_end Tells Now on x reach is ended one =
-      let r = reply_of_end (λ due. Now → TakesPart mid new due) is ended in
-      record {
-        comes = x.comes;
-        reach = x.reach;
-        may = x.may;
-        due = r.0.output;
-        next = subst (λ (k : Reach). IsNext k deck lines (files_in before) x.comes r.0.output) (sym reach) (r.0, r.1, refl);
-        taken = λ t. let k = r.4 (on t) in
-            subst (λ (o : Output). TookBehind old new (whole_records o) r.0.output) x.output
-            (k.0, k.1, k.2, r.3 ∙ ap (λ (y : List ℕ). whole_records it.left.core.output ++ y) k.3, taken_both old mid new _ _ (one t) k.4);
-        files_are = x.files_are;
-      }
+      let r = reply_of_end (λ due. Now → TakesPart mid new due) is ended in (
+        record {
+          comes = x.comes;
+          reach = x.reach;
+          may = x.may;
+          due = r.0.output;
+          next = subst (λ (k : Reach). IsNext k deck lines (files_in before) x.comes r.0.output) (sym reach) (r.0, r.1, refl);
+          taken = λ t. let k = r.4 (on t) in
+              subst (λ (o : Output). TookBehind old new (whole_records o) r.0.output) x.output
+              (k.0, k.1, k.2, r.3 ∙ ap (λ (y : List ℕ). whole_records it.left.core.output ++ y) k.3, taken_both old mid new _ _ (one t) k.4);
+          files_are = x.files_are;
+        },
+        x.at,
+      )
 
   -- a fault of the sink before it
-  pub write_of_begun : (Tells : Type 0) → IsLeftBegun deck (files_in before) it.left Tells old mid left own own' → new ≡ mid → CutBySink deck lines (files_in before) Tells old new left own own'
-  write_of_begun Tells x still = record {
-    comes = x.comes;
-    reach = Untold;
-    may = tt;
-    due = whole_records (step deck.variables x.comes.statement x.comes.before).0.output;
-    next = refl;
-    taken = λ t. let k = x.begun t in (k.0, k.1, k.2, k.3, still ∙ k.4 ∙ append_assoc old (whole_records x.comes.before.output) k.0);
-    files_are = x.files_are;
-  }
+  pub write_of_begun : (Tells : Type 0) → IsLeftBegun deck (files_in before) it.left Tells old mid left own own' → new ≡ mid → (cut : CutBySink deck lines (files_in before) Tells old new left own own') × BeginsAt cut.comes it.left.at
+  write_of_begun Tells x still = (
+    record {
+      comes = x.comes;
+      reach = Untold;
+      may = tt;
+      due = whole_records (step deck.variables x.comes.statement x.comes.before).0.output;
+      next = refl;
+      taken = λ t. let k = x.begun t in (k.0, k.1, k.2, k.3, still ∙ k.4 ∙ append_assoc old (whole_records x.comes.before.output) k.0);
+      files_are = x.files_are;
+    },
+    x.at,
+  )
 
 -- ---- fronts of a reply
 

@@ -14,7 +14,7 @@ use Rattle.fj_plain.specs.Statement.{Stated, plain_execution, step}
 use Rattle.fj_items.specs.Handing.{TakesFront, whole_records}
 use Rattle.fj_items.specs.declared.lost.Lost.{Lost}
 use Rattle.fj_runner.specs.declared.machine.Machine.{Machine}
-use Rattle.fj_job.specs.Cut.{Reach, Untold, Told, Carried as At, reached, MayReach, ComesTo, IsNext, CutByMemory}
+use Rattle.fj_job.specs.Cut.{Reach, Untold, Told, Carried as At, reached, MayReach, ComesTo, BeginsAt, IsNext, CutByMemory}
 use Rattle.fj_job.specs.Cutting.{HoldsFiles, IsCut, TookFront}
 use Rattle.fj_job.specs.Executing.{AreClosed}
 use Rattle.fj_job.specs.Reply.{Reply, IsRunReply, open_feed, variable_lines, report_of, status_of, Lines}
@@ -59,25 +59,31 @@ module _ {E J A F : Type 0} {ghosts : Ghosts F} (meaning : Meaning E J A Bay Job
       let r = run_reply deck lines files sound in
       (r.0.output, (r.0, r.1, refl), λ t. subst (λ (x : List ℕ). TakesFront old new x) (sym r.3) (front_so_far deck files old new r.2 (front_of_output old new deck files cut.comes (cut.front t))))
 
+  -- at the statement at hand
+  abbrev IsCutThere : Type 0
+  IsCutThere = (x : CutByMemory deck lines files Tells old new last before end) × BeginsAt x.comes m.at.place
+
   -- as far as the statement came
   cut_at : (reach : Reach) → MayReach reach deck.variables cut.comes.statement cut.comes.before → HoldsFiles meaning rack held before now deck files cut.comes reach m
-      → CutByMemory deck lines files Tells old new last before end
+      → IsCutThere
   cut_at reach may h =
-      let d = due_next reach in
-      record {
-        comes = cut.comes;
-        reach = reach;
-        may = may;
-        due = d.0;
-        written = inl d.1;
-        taken = d.2;
-        files_are = cut_short meaning rack held last before now end deck files m settled closed early late cut.comes reach h;
-      }
+      let d = due_next reach in (
+        record {
+          comes = cut.comes;
+          reach = reach;
+          may = may;
+          due = d.0;
+          written = inl d.1;
+          taken = d.2;
+          files_are = cut_short meaning rack held last before now end deck files m settled closed early late cut.comes reach h;
+        },
+        cut.at,
+      )
 
   -- whatever was lost
-  pub cut_by_memory : CutByMemory deck lines files Tells old new last before end
+  pub cut_by_memory : IsCutThere
   cut_by_memory = by m.tally.lost refl
     where
-      by : (o : Option Lost) → m.tally.lost ≡ o → CutByMemory deck lines files Tells old new last before end
+      by : (o : Option Lost) → m.tally.lost ≡ o → IsCutThere
       by None e = let x = cut.exact (inl e) in cut_at x.reach x.may x.files_are
       by (Some lost) e = cut_at Untold tt (cut.holds lost e)

@@ -52,6 +52,14 @@ pub record ComesTo (deck : Deck) (files : Files) : Type 0 where
 abbrev pub BeginsAt : {deck : Deck} {files : Files} → ComesTo deck files → ℕ → Type 0
 BeginsAt {deck} comes place = (lined : Lined) × (slice_get deck.statements place ≡ Some lined) × (comes.statement ≡ begun_in comes.before (lined, control_by lined.what))
 
+-- it is the one at a place of which this is known
+abbrev pub BeginsWhere : {deck : Deck} {files : Files} → (ℕ → Type 0) → ComesTo deck files → Type 0
+BeginsWhere Place comes = (place : ℕ) × BeginsAt comes place × Place place
+
+-- nothing is
+abbrev pub Anywhere : ℕ → Type 0
+Anywhere place = Unit {0}
+
 -- what unit `*` got, the lines behind it, and the line of a fault of the disk
 abbrev pub fault_report : Lines → ℕ → State → List ℕ
 fault_report lines line s = s.output.text ++ (open_feed s.output ++ (lines s.tells ++ status_text (DiskFault line)))

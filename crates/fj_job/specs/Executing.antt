@@ -32,7 +32,7 @@ use Rattle.fj_runner.specs.Machine.{ending_of}
 use Rattle.fj_runner.specs.declared.ending.Ending.{Ending}
 use Rattle.fj_runner.specs.declared.machine.Machine.{Machine}
 use Rattle.fj_job.specs.Answers.{IsAnswer, IsOfRun, HasCause, IfFault, IfMemory, IfWriteFault}
-use Rattle.fj_job.specs.Cut.{Carried as At, TookRun, TookReport, IsOfReport, CutByDisk, CutBySink, CutByMemory}
+use Rattle.fj_job.specs.Cut.{Carried as At, BeginsAt, BeginsWhere, TookRun, TookReport, IsOfReport, CutByDisk, CutBySink, CutByMemory}
 use Rattle.fj_job.specs.Cutting.{IsLeftAt, IsLeftBegun, TookSome}
 use Rattle.fj_job.specs.Fitting.{IsOther, LeavesFit}
 use Rattle.fj_job.specs.Losing.{wants}
@@ -85,7 +85,7 @@ pub record IsCarriedOut {W D F E : Type 0} (tells_out : W → Type 0) (taken : W
       → (x : IsLeftAt deck (files_of (held disk)) it.left (held disk') (refusals disk) (refusals disk')) × (x.reach ≡ At))
   -- so it is whatever was lost, also where memory was wanting in closing
   pub at_want : tells disk → IfOk result (λ it. (lines : Lines)
-      → CutByMemory deck lines (files_of (held disk)) (tells_out out) (taken out) (taken out') (held disk') (refusals disk) (refusals disk'))
+      → (cut : CutByMemory deck lines (files_of (held disk)) (tells_out out) (taken out) (taken out') (held disk') (refusals disk) (refusals disk')) × BeginsAt cut.comes it.left.at)
   pub part : tells disk → tells_out out → IfOk result (λ it. TookSome deck (files_of (held disk)) (taken out) (taken out'))
   pub sink : IfOk result (λ it. it.settled ≡ Err Sink → Rose (count_out out) (count_out out'))
   pub of_disk : IfOk result (λ it. it.settled ≡ Err Disk → Rose (count disk) (count disk'))
@@ -141,16 +141,17 @@ pub record IsConcluded {W F E : Type 0} (tells_out : W → Type 0) (taken : W �
   pub telling_out : tells_out out ↔ tells_out out'
   pub later_out : count_out out ≤ count_out out'
 
--- A deck was carried out and reported.
+-- A deck was carried out and reported. Where it was cut at a statement, that is at a place of which this is known.
 pub record IsExecuted {W D : Type 0} (tells_out : W → Type 0) (taken : W → List ℕ) (count_out : W → ℕ) (tells : D → Type 0) (held : D → Holdings) (count refusals : D → ℕ)
-    (deck : Deck) (lines : Lines) (out : W) (disk : D) (out' : W) (disk' : D) (status : Status) : Type 0 where
+    (deck : Deck) (lines : Lines) (Place : ℕ → Type 0) (out : W) (disk : D) (out' : W) (disk' : D) (status : Status) : Type 0 where
   pub replied : IsAnswer status → tells disk → IsReplied deck lines (held disk).files status (held disk').files (λ output. tells_out out → taken out' ≡ taken out ++ output)
-  pub fault : tells disk → IfFault status (λ line. CutByDisk deck lines (files_of (held disk)) line (tells_out out) (taken out) (taken out') (Rose (count_out out) (count_out out'))
-      (held disk') (refusals disk) (refusals disk'))
-  pub written : tells disk → IfWriteFault status (CutBySink deck lines (files_of (held disk)) (tells_out out) (taken out) (taken out') (held disk') (refusals disk) (refusals disk'))
+  pub fault : tells disk → IfFault status (λ line. (cut : CutByDisk deck lines (files_of (held disk)) line (tells_out out) (taken out) (taken out') (Rose (count_out out) (count_out out'))
+      (held disk') (refusals disk) (refusals disk')) × BeginsWhere Place cut.1.comes)
+  pub written : tells disk → IfWriteFault status ((cut : CutBySink deck lines (files_of (held disk)) (tells_out out) (taken out) (taken out') (held disk') (refusals disk) (refusals disk'))
+      × BeginsWhere Place cut.comes)
   -- there was no memory to begin, or it was wanting at a statement
   pub memory : tells disk → IfMemory status (((disk' ≡ disk) × (taken out' ≡ taken out))
-      ⊎ CutByMemory deck lines (files_of (held disk)) (tells_out out) (taken out) (taken out') (held disk') (refusals disk) (refusals disk'))
+      ⊎ ((cut : CutByMemory deck lines (files_of (held disk)) (tells_out out) (taken out) (taken out') (held disk') (refusals disk) (refusals disk')) × BeginsWhere Place cut.comes))
   pub front : tells disk → tells_out out → TookRun deck lines (files_of (held disk)) (taken out) (taken out')
       ⊎ (Rose (count disk) (count disk') × TookReport deck lines (files_of (held disk)) status (taken out) (taken out'))
   pub of_run : IsOfRun status

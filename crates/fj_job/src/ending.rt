@@ -16,6 +16,7 @@ ghost use Rattle.fj_job.specs.Reply.{status_of, lines_of, trace_of};
 ghost use Rattle.fj_job.specs.Concluding.{HasEnded, run_text, fault_text};
 ghost use Rattle.fj_job.specs.Fitting.{kept_name, IsOther, AreOut};
 ghost use Rattle.fj_job.specs.Losing.{first_lost, settled_by};
+ghost use Rattle.fj_job.specs.Cut.{Anywhere};
 ghost use Rattle.fj_job.specs.Executing.{AreClosed, IsSettled, IsCarriedOut, IsConcluded, IsExecuted, IsFaultReported, IsFrontReported, IsWriteReported};
 
 use crate::carrying::{carry, carry_with};
@@ -341,7 +342,7 @@ pub fn execute<W: Sink, D: Disk>(
 ) -> Status
     requires sound { IsSound deck }
     requires free { D.tells disk.old → (D.held disk.old).in_use ≡ set.empty }
-    ensures executed { IsExecuted W.tells W.taken W.count D.tells D.held D.count D.refusals deck (trace_of trace) out.old disk.old out.new disk.new result }
+    ensures executed { IsExecuted W.tells W.taken W.count D.tells D.held D.count D.refusals deck (trace_of trace) Anywhere out.old disk.old out.new disk.new result }
 {
     let carried = carry_out(alloc, deck, out, disk);
     conclude(alloc, traced(trace), carried, out)
@@ -361,7 +362,7 @@ where
     D::File: Send,
     requires sound { IsSound deck }
     requires free { D.tells disk.old → (D.held disk.old).in_use ≡ set.empty }
-    ensures executed { IsExecuted W.tells W.taken W.count D.tells D.held D.count D.refusals deck (trace_of trace) out.old disk.old out.new disk.new result }
+    ensures executed { IsExecuted W.tells W.taken W.count D.tells D.held D.count D.refusals deck (trace_of trace) Anywhere out.old disk.old out.new disk.new result }
 {
     let workers = workers_for(deck.statements.as_slice(), workers);
     let carried = carry_out_with(rt, alloc, workers, deck, out, disk);

@@ -1,5 +1,5 @@
 -- No statement looks that a stretch passes: where the execution of the deck comes to one that looks, the stretch stops there or has not come so far.
-use Rattle.std.proofs.Common.{◌≡◌, ◌⊎◌, ℕ, zero, suc, ◌<◌, ◌≤◌, Bool, true, false, List, [], ◌∷◌, length, drop, Option, Some, None, is_some, slice_get, refl, sym, ap, ◌∙◌, subst, inl, inr, arith}
+use Rattle.std.proofs.Common.{◌≡◌, ◌≢◌, ◌⊎◌, ℕ, zero, suc, ◌<◌, ◌≤◌, Bool, true, false, List, [], ◌∷◌, length, drop, Option, Some, None, is_some, slice_get, refl, sym, ap, ◌∙◌, subst, inl, inr, arith}
 use Rattle.std.specs.Prelude.{option_and_then}
 use Rattle.fj_statement.specs.declared.deck.Lined.{Lined}
 use Rattle.fj_statement.specs.declared.deck.Variable.{Variable}
@@ -8,7 +8,7 @@ use Rattle.fj_slot.specs.Serving.{Meaning}
 use Rattle.fj_slot.specs.Sound.{outcome}
 use Rattle.fj_world.specs.declared.ask.Ask.{Ask}
 use Rattle.fj_world.specs.declared.ask.Ask.TheVariants.{Submit, Settle, Finished}
-use Rattle.fj_world.specs.Losing.{given_number, given_reply, given_outcome, answered, before_ask}
+use Rattle.fj_world.specs.Losing.{given_number, given_reply, given_outcome, answered, before_ask, HasAsked}
 use Rattle.fj_world.specs.Plain.{Plain, PlainSlot, asked_next, submitted_to, told_from, settled_from, served, next}
 use Rattle.fj_world.proofs.Runs.{after_next}
 use Rattle.fj_bay.specs.Bay.{Bay}
@@ -105,24 +105,24 @@ later_by (x ∷ xs) (suc i) (suc j) h = let k = later_by xs i j h in omega (arit
 
 module _ {E J A S : Type 0} (m : Meaning E J A Bay Job Answer) (s : Shows S) where
   abbrev Goes : Plain Bay (stretch_conduct is_looking s) → Plain Bay (stretch_conduct is_looking s) → Run × List (PlainSlot Bay Job) → Type 0
-  Goes x y b = (y ≡ x) ⊎ ((y ≡ asked_next (over_bays m) (stretch_conduct is_looking s) b.0 b.1) × (b.0.rest ≡ x.script.rest))
+  Goes x y b = ((y ≡ x) ⊎ (y ≡ asked_next (over_bays m) (stretch_conduct is_looking s) b.0 b.1)) × (b.0.rest ≡ x.script.rest)
 
   served_goes : (ask : Ask Job) (x : Plain Bay (stretch_conduct is_looking s))
       → Goes x (served (over_bays m) (stretch_conduct is_looking s) ask x) (answered (over_bays m) (stretch_conduct is_looking s) ask x)
-  served_goes Finished x = inl refl
+  served_goes Finished x = (inl refl, refl)
   served_goes (Submit slot job) x = by (slice_get x.slots slot)
     where
       by : (o : Option (PlainSlot Bay Job)) → Goes x (submitted_to (over_bays m) (stretch_conduct is_looking s) o slot job x) (given_number (over_bays m) (stretch_conduct is_looking s) o slot job x)
-      by None = inl refl
-      by (Some q) = inr (refl, refl)
+      by None = (inl refl, refl)
+      by (Some q) = (inr refl, refl)
   served_goes (Settle slot) x = by (slice_get x.slots slot)
     where
       told : (o : Option Outcome) (q : PlainSlot Bay Job) → Goes x (told_from (over_bays m) (stretch_conduct is_looking s) o q slot x) (given_reply (over_bays m) (stretch_conduct is_looking s) o q slot x)
-      told None q = inl refl
-      told (Some o) q = inr (refl, refl)
+      told None q = (inl refl, refl)
+      told (Some o) q = (inr refl, refl)
 
       by : (o : Option (PlainSlot Bay Job)) → Goes x (settled_from (over_bays m) (stretch_conduct is_looking s) o slot x) (given_outcome (over_bays m) (stretch_conduct is_looking s) o slot x)
-      by None = inl refl
+      by None = (inl refl, refl)
       by (Some q) = told (outcome (over_bays m) q.start q.jobs q.told) q
 
 -- ---- a statement of the deck that looks, and to which the execution comes
@@ -232,24 +232,38 @@ module _ {E J A : Type 0} (m : Meaning E J A Bay Job Answer) (deck : Deck) (file
         let k = before_ask (over_bays m) (stretch_conduct is_looking s) n r qs in
         comes_at m s deck.variables (stated deck.statements) files so some f.entries f.count k.0 k.1 f.has_asked f.passed f.slots
 
+    -- one more ask
+    more_shows : (n : ℕ) → (let x = stretch m s is_looking n r qs in Shown x.hand x.script) → (stretch m s is_looking n r qs).hand ≢ Finished
+        → (let a' = asked_until is_looking (before_ask (over_bays m) (stretch_conduct is_looking s) (suc n) r qs).0 in Shown a'.ask a'.run)
+    more_shows n (inl look) going = absurd (going look.0)
+    more_shows n (inr (asking, less)) going =
+        let x = stretch m s is_looking n r qs in
+        let k = before_ask (over_bays m) (stretch_conduct is_looking s) (suc n) r qs in
+        let f = asks_follow m s is_looking (first_run deck.variables origin files) fresh_slots (stated deck.statements) r qs b (suc n) going in
+        let lower : left_from deck place < length k.0.rest = subst (λ l. left_from deck place < length l) (sym (served_goes m s x.hand x).1) less in
+        asked_shows k.0 k.1 (before_at (suc n) f) (omega (arith, lower)) (λ begun. lower)
+
     pub stretch_shows : (n : ℕ) → let x = stretch m s is_looking n r qs in Shown x.hand x.script
     stretch_shows zero =
         asked_shows r qs (between_at m s deck.variables (stated deck.statements) files so some origin r qs b) low (λ begun. absurd (subst HasBegun start begun))
     stretch_shows (suc n) =
         let x = stretch m s is_looking n r qs in
         subst (λ (y : Plain Bay (stretch_conduct is_looking s)). Shown y.hand y.script) (sym (after_next (over_bays m) (stretch_conduct is_looking s) n (asked_next (over_bays m) (stretch_conduct is_looking s) r qs)))
-        (by (stretch_shows n) (served_goes m s x.hand x))
+        (by (stretch_shows n) (served_goes m s x.hand x).0)
       where
         by : (let x = stretch m s is_looking n r qs in Shown x.hand x.script)
-            → (let x = stretch m s is_looking n r qs in Goes m s x (served (over_bays m) (stretch_conduct is_looking s) x.hand x) (answered (over_bays m) (stretch_conduct is_looking s) x.hand x))
+            → (let x = stretch m s is_looking n r qs in let b = answered (over_bays m) (stretch_conduct is_looking s) x.hand x in
+            (served (over_bays m) (stretch_conduct is_looking s) x.hand x ≡ x) ⊎ (served (over_bays m) (stretch_conduct is_looking s) x.hand x ≡ asked_next (over_bays m) (stretch_conduct is_looking s) b.0 b.1))
             → (let y = next (over_bays m) (stretch_conduct is_looking s) (stretch m s is_looking n r qs) in Shown y.hand y.script)
         by h (inl still) = subst (λ (y : Plain Bay (stretch_conduct is_looking s)). Shown y.hand y.script) (sym still) h
-        by (inl look) (inr (is, rest)) =
+        by (inl look) (inr is) =
             let x = stretch m s is_looking n r qs in
             subst (λ (y : Plain Bay (stretch_conduct is_looking s)). Shown y.hand y.script) (sym (ap (λ ask. served (over_bays m) (stretch_conduct is_looking s) ask x) look.0)) (inl look)
-        by (inr (asking, less)) (inr (is, rest)) =
-            let x = stretch m s is_looking n r qs in
-            let k = before_ask (over_bays m) (stretch_conduct is_looking s) (suc n) r qs in
-            let f = asks_follow m s is_looking (first_run deck.variables origin files) fresh_slots (stated deck.statements) r qs b (suc n) (λ e. subst IsAsking e asking) in
-            let lower : left_from deck place < length k.0.rest = subst (λ l. left_from deck place < length l) (sym rest) less in
-            subst (λ (y : Plain Bay (stretch_conduct is_looking s)). Shown y.hand y.script) (sym is) (asked_shows k.0 k.1 (before_at (suc n) f) (omega (arith, lower)) (λ begun. lower))
+        by (inr asking) (inr is) =
+            subst (λ (y : Plain Bay (stretch_conduct is_looking s)). Shown y.hand y.script) (sym is) (more_shows n (inr asking) (λ e. subst IsAsking e asking.0))
+
+    -- before an ask, what that is
+    pub before_shows : (n : ℕ) → HasAsked (over_bays m) (stretch_conduct is_looking s) n r qs
+        → let a' = asked_until is_looking (before_ask (over_bays m) (stretch_conduct is_looking s) n r qs).0 in Shown a'.ask a'.run
+    before_shows zero asked = stretch_shows zero
+    before_shows (suc n) asked = more_shows n (stretch_shows n) asked

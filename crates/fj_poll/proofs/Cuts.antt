@@ -26,6 +26,7 @@ use Rattle.fj_runner.specs.declared.machine.Machine.{Machine}
 use Rattle.fj_job.proofs.CutRuns.{IsRunner, run_cut}
 use Rattle.fj_job.proofs.Leading.{led_to, leaves_same, leaves_on}
 use Rattle.fj_poll.specs.Stretches.{bare, IsBetween, HasCome}
+use Rattle.fj_poll.proofs.CutLooks.{AreShort, cut_less}
 use Rattle.fj_poll.proofs.Other.{other_between}
 use Rattle.fj_poll.proofs.Stretched.{came}
 
@@ -41,16 +42,18 @@ not_stopped true over stops going = let z : true ≡ false = sym (stops refl) �
 
 pub has_come : {S W D F E J A : Type 0} {ghosts : Ghosts F} (meaning : Meaning E J A Bay Job Answer) (s : Shows S) (tells_out : W → Type 0) (taken : W → List ℕ) (count_out : W → ℕ) (tells : D → Type 0) (count refusals : D → ℕ)
     (disk_told : D → Bool) (held : D → Holdings) (told : F → Bool) (bytes : F → List ℕ) (out : S → W) (disk : S → D) (machine : S → Machine F ghosts) (origin : List Stated) (out0 : W) (disk0 : D) (m0 : Machine F ghosts)
-    (first last : S) (rack rack' : Rack E J A) → IsRunner s tells_out taken count_out tells count refusals disk_told held told bytes out disk machine → LeadsTo s.leads first last
+    (first last : S) (rack rack' : Rack E J A) → IsRunner s tells_out taken count_out tells count refusals disk_told held told bytes out disk machine → AreShort s machine → LeadsTo s.leads first last
     → (b : IsBetween tells_out taken count_out tells held count refusals told bytes meaning origin out0 disk0 m0 (out first) (disk first) (machine first) rack)
     → ServedAlone (over_bays meaning) (stretch_conduct is_looking s) (asked_next (over_bays meaning) (stretch_conduct is_looking s) b.run b.slots) last rack'
     → ((machine last).tally.over ≡ true → WasLost (over_bays meaning) (stretch_conduct is_looking s) b.run b.slots first last rack')
     → StopsFull meaning
     → HasCome tells_out taken held refusals told bytes meaning origin (machine first).deck b.run out0 disk0 (out last) (disk last) (machine last) rack'
-has_come meaning s tells_out taken count_out tells count refusals disk_told held told bytes out disk machine origin out0 disk0 m0 first last rack rack' runner many b alone lost full = record {
+has_come meaning s tells_out taken count_out tells count refusals disk_told held told bytes out disk machine origin out0 disk0 m0 first last rack rack' runner short many b alone lost full = record {
   cut = λ over.
       run_cut meaning s tells_out taken count_out tells count refusals disk_told held told bytes out disk machine (machine first).deck (files_of (held disk0)) out0 disk0 m0 origin first last rack'
       stopped (losses_follow meaning s is_looking (first_run (machine first).deck.variables origin (files_of (held disk0))) fresh_slots (stated (machine first).deck.statements) b.run b.slots first last rack' between (lost over)) runner b.sound b.begun b.leaves refl b.on full;
+  none = λ over.
+      cut_less meaning s tells_out taken count_out tells count refusals disk_told held told bytes out disk machine runner short (machine first).deck b.sound (files_of (held disk0)) origin b.run b.slots b.start between first last rack' (lost over);
   stands = λ going.
       came meaning s told bytes origin (machine first).deck b.sound (files_of (held disk0)) (files_of (held (disk last))) b.run b.slots b.start between (machine last) rack' last (disk_told (disk last)) alone (runner.over last ∙ going) (runner.state last) all_leave.deck;
 }

@@ -1,5 +1,5 @@
 -- A deck that was carried out with looks, and reported.
-use Rattle.std.proofs.Common.{◌≡◌, ◌≤◌, ℕ, List, [], length, Result, Ok, Err, IfOk, false, true, refl, sym, subst, arith}
+use Rattle.std.proofs.Common.{◌≡◌, ◌≤◌, ℕ, ◌+◌, List, [], length, Result, Ok, Err, IfOk, false, true, refl, sym, subst, arith}
 use Rattle.std.specs.FinSet as set
 use Rattle.std.specs.Prelude.{IsErr}
 use Rattle.fj_outside.specs.Holdings.{Holdings}
@@ -15,7 +15,7 @@ use Rattle.fj_job.specs.declared.ending.Carried.{Carried}
 use Rattle.fj_job.proofs.CarriedOut.{executed}
 use Rattle.fj_poll.specs.Answers.{IsCarriedOutPolled, IsExecutedPolled, looks_left}
 use Rattle.fj_poll.specs.Lines.{look_lines}
-use Rattle.fj_poll.specs.Looks.{NoneLooks}
+use Rattle.fj_poll.specs.Looks.{NoneLooks, NoneLooksBefore}
 
 module _ {W D F : Type 0} (tells_out : W → Type 0) (taken : W → List ℕ) (count_out : W → ℕ) (tells : D → Type 0) (held : D → Holdings) (count refusals : D → ℕ) where
   -- there was no memory to begin
@@ -26,6 +26,7 @@ module _ {W D F : Type 0} (tells_out : W → Type 0) (taken : W → List ℕ) (c
     polled = record { put = deck; looks = []; is_put = λ t. record { variables = refl; groups = refl; long = refl; are = λ place from to. refl }; sound = sound };
     looks = refl;
     none = λ t. tt;
+    none_before = λ t. tt;
     carried = record {
       deck_is = tt;
       taken_is = λ w. tt;
@@ -68,5 +69,7 @@ module _ {W D F : Type 0} (tells_out : W → Type 0) (taken : W → List ℕ) (c
       record {
         polled = h.polled;
         none = λ a t. none_of deck out disk out' disk' out'' (look_lines (looks_left carried)) carried status h k a t;
-        executed = executed tells_out taken count_out tells held count refusals h.polled.put (look_lines h.polled.looks) out disk out' disk' out'' carried status h.polled.sound free h.carried mine;
+        executed =
+            executed tells_out taken count_out tells held count refusals h.polled.put (look_lines h.polled.looks) (λ place. NoneLooksBefore h.polled.put (files_of (held disk)) (place + 1)) out disk out' disk' out'' carried status
+            h.polled.sound free h.carried mine h.none_before;
       }

@@ -4,6 +4,7 @@ pub mod Clear
 pub mod Putting
 pub mod Looked
 pub mod Stretched
+pub mod CutLooks
 pub mod Cuts
 pub mod Sends
 pub mod UnderWay

@@ -35,14 +35,10 @@ use Rattle.fj_runner.specs.Looking.{are_done, known_at, look_at}
 use Rattle.fj_runner.specs.declared.looking.Look.{Look}
 use Rattle.fj_job.proofs.Leaving.{same_index}
 use Rattle.fj_runner.proofs.Looks.{asks_looked}
-use Rattle.fj_poll.specs.Looks.{given_at, Asks, IsLook, AreSame, IsPut, NoneLooks}
+use Rattle.fj_poll.specs.Looks.{given_at, Asks, IsLook, AreSame, IsPut, NoneLooks, NoneLooksBefore}
 use Rattle.fj_poll.proofs.Putting.{LooksTo, are_looks, with_at, asked_before, looks_then}
 
 -- ---- a deck with looks up to a place
-
--- no statement before that place looks
-abbrev pub NoneBefore : Deck → Files → ℕ → Type 0
-NoneBefore put files place = (index : ℕ) (lined : Lined) → index < place → slice_get put.statements index ≡ Some lined → Asks put files index lined → ⊥
 
 -- Its looks are at places up to this one, and no statement before it looks any more; nor does the one there, where a look is at it.
 pub record IsPutTo (deck put : Deck) (files : Files) (place : ℕ) (looks : List Look) : Type 0 where
@@ -53,7 +49,7 @@ pub record IsPutTo (deck put : Deck) (files : Files) (place : ℕ) (looks : List
   pub low : bound ≤ place + 1
   pub knows : place < bound → (lined : Lined) → slice_get put.statements place ≡ Some lined → asks_whether lined.what ≡ false
   pub looks_are : LooksTo deck put files bound 0 looks
-  pub none : NoneBefore put files place
+  pub none : NoneLooksBefore put files place
 
 pub is_put : (deck put : Deck) (files : Files) (place : ℕ) (looks : List Look) → IsPutTo deck put files place looks → IsPut deck put files looks
 is_put deck put files place looks h = record { variables = h.variables; groups = h.groups; long = h.long; are = are_looks deck put files h.bound 0 looks h.looks_are }

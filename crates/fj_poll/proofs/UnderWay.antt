@@ -1,5 +1,6 @@
 -- A run with looks between two stretches, and how it goes on.
 use Rattle.std.proofs.Common.{◌≡◌, ◌⊎◌, ℕ, zero, suc, ◌+◌, ◌<◌, ◌≤◌, ◌^◌, Bool, true, false, cond, List, [], ◌∷◌, ◌++◌, length, drop, Option, Some, None, is_some, slice_get, refl, sym, ap, ◌∙◌, subst, inl, inr, arith, append_assoc, length-append, length-drop}
+use Rattle.std.proofs.lemmas.Bool.{cases_lt}
 use Rattle.std.proofs.lemmas.List.Sums.{sum_by-cons}
 use Rattle.std.proofs.lemmas.Option.{slice_get_within}
 use Rattle.std.specs.Option.{option_map}
@@ -52,7 +53,7 @@ use Rattle.fj_job.proofs.Executed.{rest_is}
 use Rattle.fj_job.proofs.Fresh.{few, owed, fresh_at}
 use Rattle.fj_job.proofs.Leading.{leaves_same, but_deck, but_on}
 use Rattle.fj_job.proofs.Passes.{ends_so, some_statement}
-use Rattle.fj_poll.specs.Looks.{Asks, IsPut, NoneLooks}
+use Rattle.fj_poll.specs.Looks.{Asks, IsPut, NoneLooks, NoneLooksBefore}
 use Rattle.fj_poll.specs.Stretches.{bare, CanBeServed, IsBetween, CameToLook, CameToEnd, HasCome, left_from}
 use Rattle.fj_poll.proofs.Looked.{IsPutTo, is_put, item_is, put_on, none_looks, is_look}
 use Rattle.fj_poll.proofs.Putting.{LooksTo, drop_front, stated_set, with_at}
@@ -392,6 +393,22 @@ module _ {W D F E J A : Type 0} {ghosts : Ghosts F} (tells_out : W → Type 0) (
 
     pub none_then : tells disk0 → m1.tally.over ≡ false → NoneLooks m1.deck (files_of (held disk0))
     none_then t going = none_still t (ends t going)
+
+    pub before_then : tells disk0 → NoneLooksBefore m1.deck (files_of (held disk0)) (m1.at.place + 1)
+    before_then t = by m1.tally.over refl
+      where
+        by : (over : Bool) → m1.tally.over ≡ over → NoneLooksBefore m1.deck (files_of (held disk0)) (m1.at.place + 1)
+        by false going = λ index l low item asks. none_then t going index l item asks
+        by true over = subst (λ (d : Deck). NoneLooksBefore d (files_of (held disk0)) (m1.at.place + 1)) (sym leaves.deck) (λ index l low item asks. elim (cases_lt index m.at.place) [
+          | inl earlier ↦ (u.way t).put.none index l earlier item asks
+          | inr later ↦
+              let less = (come t).none over index l item asks (left_low t index later) in
+              let x = length-drop index (stated m.deck.statements) in
+              let y = length-drop m1.at.place (stated m.deck.statements) in
+              let rest : length (rest_of m1) ≡ length (drop m1.at.place (stated m.deck.statements)) =
+              numbered_long m1.at.number (drop m1.at.place (stated m1.deck.statements)) ∙ ap (λ (d : Deck). length (drop m1.at.place (stated d.statements))) leaves.deck in
+              omega (arith, less, x, y, rest, low)
+        ])
 
     pub ran_then : tells disk0 → m1.tally.over ≡ false → HasRun meaning told bytes m1.deck (files_of (held disk0)) (files_of (held disk')) m1 rack'
     ran_then t going = subst (λ (d : Deck). HasRun meaning told bytes d (files_of (held disk0)) (files_of (held disk')) m1 rack') (sym leaves.deck) (ends t going).ran

@@ -1,5 +1,5 @@
 -- What a run with looks has done.
-use Rattle.std.specs.Prelude.{◌≡◌, ◌⊎◌, ◌↔◌, ◌≤◌, ℕ, false, List, [], ◌++◌, codes, Option, Some, None, Result, Ok, Err, IfOk}
+use Rattle.std.specs.Prelude.{◌≡◌, ◌⊎◌, ◌↔◌, ◌≤◌, ℕ, ◌+◌, false, List, [], ◌++◌, codes, Option, Some, None, Result, Ok, Err, IfOk}
 use Rattle.fj_outside.specs.Faults.{Rose}
 use Rattle.fj_outside.specs.Holdings.{Holdings}
 use Rattle.fj_statement.specs.Sound.{IsSound}
@@ -16,7 +16,7 @@ use Rattle.fj_job.specs.Answers.{HasRun, HasCause, IsAnswer, IsLost}
 use Rattle.fj_job.specs.Executing.{IsCarriedOut, IsExecuted}
 use Rattle.fj_job.specs.Seen.{on_disk, seen}
 use Rattle.fj_poll.specs.Lines.{look_lines}
-use Rattle.fj_poll.specs.Looks.{IsPut, NoneLooks}
+use Rattle.fj_poll.specs.Looks.{IsPut, NoneLooks, NoneLooksBefore}
 
 -- words that are no form
 unfoldable pub usage_text : List ℕ
@@ -34,20 +34,23 @@ abbrev pub looks_left : {F E : Type 0} → Result (Carried F) E → List Look
 looks_left (Ok it) = it.left.looks.items
 looks_left (Err error) = []
 
--- A deck was carried out with looks: what is left is what carrying it out leaves as they put it.
+-- A deck was carried out with looks: what is left is what carrying it out leaves as they put it. Where it ended no look is missing, and where it
+-- was cut none up to the statement at which it was.
 pub record IsCarriedOutPolled {W D F E : Type 0} (tells_out : W → Type 0) (taken : W → List ℕ) (count_out : W → ℕ) (tells : D → Type 0) (held : D → Holdings) (count refusals : D → ℕ)
     (deck : Deck) (out : W) (disk : D) (out' : W) (disk' : D) (result : Result (Carried F) E) : Type 0 where
   pub polled : Polled (tells disk) deck (held disk)
   pub looks : polled.looks ≡ looks_left result
   pub none : tells disk → IfOk result (λ it. it.left.over ≡ false → NoneLooks polled.put (files_of (held disk)))
+  pub none_before : tells disk → IfOk result (λ it. NoneLooksBefore polled.put (files_of (held disk)) (it.left.at + 1))
   pub carried : IsCarriedOut tells_out taken count_out tells held count refusals polled.put out disk out' disk' result
 
--- and reported: with the lines of its looks in the place of those of a trace
+-- And reported, with the lines of its looks in the place of those of a trace: all of them; or, where it was cut at a statement, all up to that.
 pub record IsExecutedPolled {W D : Type 0} (tells_out : W → Type 0) (taken : W → List ℕ) (count_out : W → ℕ) (tells : D → Type 0) (held : D → Holdings) (count refusals : D → ℕ)
     (deck : Deck) (out : W) (disk : D) (out' : W) (disk' : D) (status : Status) : Type 0 where
   pub polled : Polled (tells disk) deck (held disk)
   pub none : IsAnswer status → tells disk → NoneLooks polled.put (files_of (held disk))
-  pub executed : IsExecuted tells_out taken count_out tells held count refusals polled.put (look_lines polled.looks) out disk out' disk' status
+  pub executed : IsExecuted tells_out taken count_out tells held count refusals polled.put (look_lines polled.looks)
+      (λ place. NoneLooksBefore polled.put (files_of (held disk)) (place + 1)) out disk out' disk' status
 
 module _ {R W D : Type 0} (tells_in : R → Type 0) (left : R → List ℕ) (count_in : R → ℕ) (tells_out : W → Type 0) (taken : W → List ℕ) (count_out : W → ℕ)
     (tells : D → Type 0) (held : D → Holdings) (count refusals : D → ℕ) where

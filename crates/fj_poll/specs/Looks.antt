@@ -62,6 +62,10 @@ pub record IsPut (deck put : Deck) (files : Files) (looks : List Look) : Type 0 
   pub long : length put.statements ≡ length deck.statements
   pub are : AreLooks deck put files 0 looks
 
--- no statement to which the execution comes looks any more
+-- no statement before that place, to which the execution comes, looks any more
+abbrev pub NoneLooksBefore : Deck → Files → ℕ → Type 0
+NoneLooksBefore put files place = (index : ℕ) (lined : Lined) → index < place → slice_get put.statements index ≡ Some lined → Asks put files index lined → ⊥
+
+-- none at all does
 abbrev pub NoneLooks : Deck → Files → Type 0
 NoneLooks put files = (place : ℕ) (lined : Lined) → slice_get put.statements place ≡ Some lined → Asks put files place lined → ⊥

@@ -22,13 +22,13 @@ use Rattle.fj_turns.specs.Serving.{over_bays, Shows, first_run, fresh_slots}
 use Rattle.fj_looks.specs.Inquiring.{is_looking}
 use Rattle.fj_looks.specs.Stretches.{with_rest, IsOver, StandsAtLook, Between}
 use Rattle.fj_units.specs.Files.{files_of}
-use Rattle.fj_runner.specs.Machine.{run_of}
+use Rattle.fj_runner.specs.Machine.{rest_of, run_of}
 use Rattle.fj_runner.specs.Tallying.{due_of, owed_at}
 use Rattle.fj_runner.specs.declared.ending.Ending.{Ending}
 use Rattle.fj_runner.specs.declared.machine.Machine.{Machine}
 use Rattle.fj_job.specs.Carrying.{HasNotBegun, HasRun, LeavesButDeck}
 use Rattle.fj_job.specs.Cutting.{IsCut, EndsHere}
-use Rattle.fj_poll.specs.Looks.{Asks, IsPut, NoneLooks}
+use Rattle.fj_poll.specs.Looks.{Asks, IsPut, NoneLooks, NoneLooksBefore}
 
 -- a script that is a run, and shows nothing else
 abbrev pub bare : Shows Run
@@ -88,10 +88,12 @@ pub record CameToEnd {E J A F : Type 0} {ghosts : Ghosts F} (told : F → Bool) 
   pub ended : (ending : Ending) → m.state.ending ≡ Some ending → EndsHere deck files m
   pub none : (place : ℕ) (lined : Lined) → slice_get deck.statements place ≡ Some lined → Asks deck files place lined → left_from deck place ≤ length r.rest → ⊥
 
--- or it was cut
+-- Or it was cut; then no statement that was at hand looks, up to the one at which it was cut.
 pub record HasCome {W D F E J A : Type 0} {ghosts : Ghosts F} (tells_out : W → Type 0) (taken : W → List ℕ) (held : D → Holdings) (refusals : D → ℕ)
     (told : F → Bool) (bytes : F → List ℕ) (meaning : Meaning E J A Bay Job Answer) (origin : List Stated) (deck : Deck) (r : Run) (out0 : W) (disk0 : D) (out : W) (disk : D) (m : Machine F ghosts) (rack : Rack E J A) : Type 0 where
   pub cut : m.tally.over ≡ true → IsCut meaning rack (held disk) (refusals disk0) (refusals disk) (tells_out out0) (taken out0) (taken out) deck (files_of (held disk0)) m
+  pub none : m.tally.over ≡ true → (place : ℕ) (lined : Lined) → slice_get deck.statements place ≡ Some lined → Asks deck (files_of (held disk0)) place lined
+      → left_from deck place ≤ length r.rest → left_from deck place < length (rest_of m)
   pub stands : m.tally.over ≡ false → CameToLook told bytes meaning origin deck (files_of (held disk0)) (files_of (held disk)) r m rack
       ⊎ CameToEnd told bytes meaning deck (files_of (held disk0)) (files_of (held disk)) r m rack
 
@@ -101,7 +103,8 @@ Comes {W} {D} {F} {E} {J} {A} {ghosts} tells_out taken count_out tells held coun
     (origin : List Stated) (out0 : W) (disk0 : D) (m0 : Machine F ghosts) (b : IsBetween tells_out taken count_out tells held count refusals told bytes meaning origin out0 disk0 m0 out disk m rack) →
     HasCome tells_out taken held refusals told bytes meaning origin m.deck b.run out0 disk0 out' disk' m' rack'
 
--- The deck was carried out in stretches: what is left is what carrying it out leaves as its looks put it, none being wanting; or it was cut.
+-- The deck was carried out in stretches: what is left is what carrying it out leaves as its looks put it, none being wanting; or it was cut,
+-- and none is wanting up to the statement at which it was.
 pub record HasCarried {W D F E J A : Type 0} {ghosts : Ghosts F} (tells_out : W → Type 0) (taken : W → List ℕ) (count_out : W → ℕ) (tells : D → Type 0) (held : D → Holdings) (count refusals : D → ℕ)
     (told : F → Bool) (bytes : F → List ℕ) (meaning : Meaning E J A Bay Job Answer) (out : W) (disk : D) (m : Machine F ghosts) (rack : Rack E J A) (out' : W) (disk' : D) (m' : Machine F ghosts) (rack' : Rack E J A) : Type 0 where
   pub home : AllHome rack'
@@ -110,6 +113,7 @@ pub record HasCarried {W D F E J A : Type 0} {ghosts : Ghosts F} (tells_out : W 
   pub sound : IsSound m'.deck
   pub put : tells disk → IsPut m.deck m'.deck (files_of (held disk)) m'.looks.items
   pub none : tells disk → m'.tally.over ≡ false → NoneLooks m'.deck (files_of (held disk))
+  pub none_before : tells disk → NoneLooksBefore m'.deck (files_of (held disk)) (m'.at.place + 1)
   pub ran : tells disk → m'.tally.over ≡ false → HasRun meaning told bytes m'.deck (files_of (held disk)) (files_of (held disk')) m' rack'
   pub cut : tells disk → m'.tally.over ≡ true → IsCut meaning rack' (held disk') (refusals disk) (refusals disk') (tells_out out) (taken out) (taken out') m'.deck (files_of (held disk)) m'
   pub ended : tells disk → m'.tally.over ≡ false → (ending : Ending) → m'.state.ending ≡ Some ending → EndsHere m'.deck (files_of (held disk)) m'

@@ -6,6 +6,7 @@ pub mod NextAsks
 pub mod Owning
 pub mod Going
 pub mod Scripting
+pub mod Shortly
 pub mod Lists
 pub mod Pauses
 pub mod Made

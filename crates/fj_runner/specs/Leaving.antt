@@ -38,12 +38,13 @@ pub record Rests {F : Type 0} {ghosts : Ghosts F} (m m' : Machine F ghosts) : Ty
   pub looks : m'.looks ≡ m.looks
 
 -- one call of a runner, whose sink, disk and machine go by these names: they are the same ones
-pub record Leads {N : Type 0} (out disk machine out' disk' machine' : N) (left_so given_up_so asking_so stays_so reason_so keeps_so : Type 0) : Type 0 where
+pub record Leads {N : Type 0} (out disk machine out' disk' machine' : N) (left_so given_up_so short_so asking_so stays_so reason_so keeps_so : Type 0) : Type 0 where
   pub same_out : out' ≡ out
   pub same_disk : disk' ≡ disk
   pub same_machine : machine' ≡ machine
   pub leaves : left_so
   pub gives_up : given_up_so
+  pub short : short_so
   pub asking : asking_so
   pub stays : stays_so
   pub reason : reason_so

@@ -20,4 +20,5 @@ pub mod Handing
 pub mod Room
 pub mod Asking
 pub mod Looking
+pub mod Short
 pub mod Showing

@@ -2,20 +2,23 @@
 use Rattle.std.specs.Prelude.{ℕ, Bool, List, None, if◌then◌else◌}
 use Rattle.fj_outside.specs.Holdings.{Holdings}
 use Rattle.fj_outside.specs.declared.outside.FileStore.{Ghosts}
+use Rattle.fj_plain.specs.Statement.{Stated}
+use Rattle.fj_turns.specs.Run.{Run}
 use Rattle.fj_turns.specs.Serving.{Shows}
 use Rattle.fj_units.specs.Files.{files_of}
 use Rattle.fj_runner.specs.Failing.{IsGivenUp, FailsAsking, Stays, HasReason}
 use Rattle.fj_runner.specs.Kept.{KeepsFiles}
 use Rattle.fj_runner.specs.Leaving.{Leaves, Leads}
 use Rattle.fj_runner.specs.Machine.{run_of}
+use Rattle.fj_runner.specs.Short.{FallsShort}
 use Rattle.fj_runner.specs.Tallying.{due_of, owed_at}
 use Rattle.fj_runner.specs.declared.machine.Machine.{Machine}
 
--- by their names and what they are now
-abbrev pub shows_by : {S N W D F : Type 0} {ghosts : Ghosts F} → (tells_out : W → Type 0) (taken : W → List ℕ) (count_out : W → ℕ)
+-- by their names and what they are now; it finishes at statements that look so
+abbrev pub shows_by : {S N W D F : Type 0} {ghosts : Ghosts F} → (looks : Stated → Run → Bool) (tells_out : W → Type 0) (taken : W → List ℕ) (count_out : W → ℕ)
     (tells : D → Type 0) (decided : D → Bool) (held : D → Holdings) (count refusals : D → ℕ) (told : F → Bool) (bytes : F → List ℕ)
     (out_name disk_name machine_name : S → N) (out : S → W) (disk : S → D) (machine : S → Machine F ghosts) → Shows S
-shows_by tells_out taken count_out tells decided held count refusals told bytes out_name disk_name machine_name out disk machine = record {
+shows_by looks tells_out taken count_out tells decided held count refusals told bytes out_name disk_name machine_name out disk machine = record {
   left = λ r. (machine r).tally.left;
   uses = λ _. 16;
   owed = λ r at. owed_at (machine r).tally.owed.items at;
@@ -26,6 +29,7 @@ shows_by tells_out taken count_out tells decided held count refusals told bytes 
       (Leaves tells_out taken count_out tells count refusals (out old) (disk old) (machine old) (out new) (disk new) (machine new))
       (IsGivenUp (tells_out (out old)) (taken (out old)) (taken (out new)) (held (disk new)) (refusals (disk old)) (refusals (disk new))
       (if decided (disk old) then run_of told bytes (files_of (held (disk old))) (machine old) else None) (machine old) (machine new))
+      (FallsShort looks (if decided (disk old) then run_of told bytes (files_of (held (disk old))) (machine old) else None) (machine old) (machine new))
       (FailsAsking (disk old) (disk new) (machine old) (machine new)) (Stays (taken (out old)) (taken (out new)) (disk old) (disk new) (machine old) (machine new)) (HasReason (machine old) (machine new)) (KeepsFiles (machine old) (machine new));
   state = λ r. if decided (disk r) then run_of told bytes (files_of (held (disk r))) (machine r) else None;
 }

@@ -16,6 +16,7 @@ ghost use Rattle.fj_runner.specs.Machine.{behind, rest_of, run_at, run_of};
 ghost use Rattle.fj_runner.specs.Turned.{IsTurn, IsAsked};
 ghost use Rattle.fj_runner.specs.Stepping.{Steps};
 ghost use Rattle.fj_runner.specs.Failing.{FailsCall};
+ghost use Rattle.fj_runner.specs.Short.{IsShort};
 ghost use Rattle.fj_runner.specs.Fitting.{HasRoom};
 ghost use Rattle.fj_runner.specs.Spending.{Lives, Spends, Spent, jobs_from, jobs_left};
 ghost use Rattle.fj_runner.specs.Going.{DoesNotPause, FromTurn, IsAt, KeepsToSlots, SentFor, SinceTurn};
@@ -94,6 +95,7 @@ impl<F: FileStore> Machine<F> {
             (D.held disk.new) (D.refusals disk.old) (D.refusals disk.new)
             (run_at (files_of (D.held disk.old)) self.old Start) self.old self.new) }
         ensures at { IfOk result (λ o. IfNone o (self.new.at.place ≡ self.old.at.place + 1)) }
+        ensures still_at { OnErr result (self.new.at.place ≡ self.old.at.place) }
         ensures started { IfOk result (λ o. IfNone o (self.new.state.stage ≡ Stage.Start)) }
         ensures follows { self.old.state.stage ≡ Stage.Start → IsAt self.old → Follows (λ o. IfSome o (GivesOf MayKeep self.new) × IfNone o (self.new.state.stage ≡ Stage.Start))
             (IsSound self.old.deck) result self.new }
@@ -137,6 +139,8 @@ impl<F: FileStore> Machine<F> {
         ensures fails { D.tells disk.old → OnErr result (FailsCall (λ lost. result ≡ Err lost) (W.tells out.old) (W.taken out.old) (W.taken out.new)
             (D.held disk.new) (D.refusals disk.old) (D.refusals disk.new)
             (run_at (files_of (D.held disk.old)) self.old Start) self.old self.new) }
+        ensures short { D.tells disk.old → OnErr result (IsShort (looks_by to_look)
+            (goes_until (looks_by to_look) (rest_of self.old) (run_at (files_of (D.held disk.old)) self.old Start)) (rest_of self.new)) }
         ensures deck { self.new.deck ≡ self.old.deck }
         ensures tally { self.new.tally ≡ self.old.tally }
         ensures kept { self.new.kept ≡ self.old.kept }
@@ -182,6 +186,8 @@ impl<F: FileStore> Machine<F> {
         ensures fails { D.tells disk.old → (t : Turn) → IsTurn F.told F.bytes self.old.deck.variables (rest_of self.old) (files_of (D.held disk.old)) self.old.state turned t
             → OnErr result ((r : Run) × (passed_by (drop (self.old.at.place + 1) (stated self.old.deck.statements)) t ≡ Some r)
             × FailsCall (λ lost. result ≡ Err lost) (W.tells out.old) (W.taken out.old) (W.taken out.new) (D.held disk.new) (D.refusals disk.old) (D.refusals disk.new) r self.old self.new) }
+        ensures short { D.tells disk.old → (t : Turn) → IsTurn F.told F.bytes self.old.deck.variables (rest_of self.old) (files_of (D.held disk.old)) self.old.state turned t
+            → OnErr result (IsShort (looks_by to_look) (turn_until (looks_by to_look) (drop (self.old.at.place + 1) (stated self.old.deck.statements)) t) (rest_of self.new)) }
         ensures deck { self.new.deck ≡ self.old.deck }
         ensures tally { self.new.tally ≡ self.old.tally }
         ensures kept { self.new.kept ≡ self.old.kept }
@@ -213,6 +219,8 @@ impl<F: FileStore> Machine<F> {
         ensures steps { Steps W.tells W.taken W.count D.tells D.held D.count D.refusals out.old disk.old self.old.state.core result out.new disk.new self.new.state.core }
         ensures fails { D.tells disk.old → (r : Run) → run_of F.told F.bytes (files_of (D.held disk.old)) self.old ≡ Some r
             → OnErr result (FailsCall (λ lost. result ≡ Err lost) (W.tells out.old) (W.taken out.old) (W.taken out.new) (D.held disk.new) (D.refusals disk.old) (D.refusals disk.new) r self.old self.new) }
+        ensures short { D.tells disk.old → (r : Run) → run_of F.told F.bytes (files_of (D.held disk.old)) self.old ≡ Some r
+            → OnErr result (IsShort (looks_by to_look) (asked_until (looks_by to_look) r) (rest_of self.new)) }
         ensures deck { self.new.deck ≡ self.old.deck }
         ensures tally { self.new.tally ≡ self.old.tally }
         ensures kept { self.new.kept ≡ self.old.kept }

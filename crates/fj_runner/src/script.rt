@@ -15,6 +15,7 @@ ghost use Rattle.fj_world.specs.Giving.{GivesOf};
 ghost use Rattle.fj_runner.specs.Kept.{KeepsFiles, MayKeep};
 ghost use Rattle.fj_runner.specs.Leaving.{Leaves};
 ghost use Rattle.fj_runner.specs.Machine.{run_of};
+ghost use Rattle.fj_runner.specs.Short.{FallsShort};
 ghost use Rattle.fj_runner.specs.Showing.{shows_by};
 ghost use Rattle.fj_runner.specs.Fitting.{HasRoom};
 ghost use Rattle.fj_runner.specs.Going.{IsGoing, OwesAsGiven};
@@ -63,6 +64,7 @@ pub(crate) fn next_of<W: Sink, D: Disk>(
     ensures leaves { Leaves W.tells W.taken W.count D.tells D.count D.refusals out.old disk.old machine.old out.new disk.new machine.new }
     ensures fails { D.tells disk.old → IsGivenUp (W.tells out.old) (W.taken out.old) (W.taken out.new) (D.held disk.new) (D.refusals disk.old) (D.refusals disk.new)
         (run_of D.File.told D.File.bytes (files_of (D.held disk.old)) machine.old) machine.old machine.new }
+    ensures short { D.tells disk.old → FallsShort (looks_by to_look) (run_of D.File.told D.File.bytes (files_of (D.held disk.old)) machine.old) machine.old machine.new }
 {
     machine.ask(to_look, alloc, disk, out)
 }
@@ -70,7 +72,7 @@ pub(crate) fn next_of<W: Sink, D: Disk>(
 impl<'a, 'b, 'c, W: Sink, D: Disk> Script for Runner<'a, 'b, 'c, W, D> {
     type Gear = Bay<D::File>;
 
-    ghost conduct = { run_conduct (shows_by W.tells W.taken W.count D.tells D.told D.held D.count D.refusals D.File.told D.File.bytes
+    ghost conduct = { run_conduct (shows_by (looks_by false) W.tells W.taken W.count D.tells D.told D.held D.count D.refusals D.File.told D.File.bytes
         (λ r. r.out.ghost_name) (λ r. r.disk.ghost_name) (λ r. r.machine.ghost_name) (λ r. r.out.now) (λ r. r.disk.now) (λ r. r.machine.now)) };
 
     ghost gives = { λ r job. MayKeep r.machine.now job };

@@ -19,6 +19,7 @@ ghost use Rattle.fj_runner.specs.Kept.{KeepsFiles, MayKeep};
 ghost use Rattle.fj_runner.specs.Leaving.{Leaves, Rests};
 ghost use Rattle.fj_runner.specs.Machine.{run_of};
 ghost use Rattle.fj_runner.specs.Refused.{brought};
+ghost use Rattle.fj_runner.specs.Short.{FallsShort};
 ghost use Rattle.fj_runner.specs.Tallying.{due_of, owed_at};
 ghost use Rattle.fj_runner.specs.Turned.{IsAsked};
 ghost use Rattle.fj_runner.specs.declared.hand.Hand.TheVariants.{Idle};
@@ -98,6 +99,7 @@ impl<F: FileStore> Machine<F> {
         ensures leaves { Leaves W.tells W.taken W.count D.tells D.count D.refusals out.old disk.old self.old out.new disk.new self.new }
         ensures fails { D.tells disk.old → IsGivenUp (W.tells out.old) (W.taken out.old) (W.taken out.new) (D.held disk.new) (D.refusals disk.old) (D.refusals disk.new)
             (run_of F.told F.bytes (files_of (D.held disk.old)) self.old) self.old self.new }
+        ensures short { D.tells disk.old → FallsShort (looks_by to_look) (run_of F.told F.bytes (files_of (D.held disk.old)) self.old) self.old self.new }
     {
         if self.tally.over {
             return Ask::Finished;

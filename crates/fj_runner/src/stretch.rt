@@ -32,7 +32,7 @@ pub struct Stretch<'a, 'b, 'c, W: Sink, D: Disk> {
 impl<'a, 'b, 'c, W: Sink, D: Disk> Script for Stretch<'a, 'b, 'c, W, D> {
     type Gear = Bay<D::File>;
 
-    ghost conduct = { stretch_conduct is_looking (shows_by W.tells W.taken W.count D.tells D.told D.held D.count D.refusals D.File.told D.File.bytes
+    ghost conduct = { stretch_conduct is_looking (shows_by is_looking W.tells W.taken W.count D.tells D.told D.held D.count D.refusals D.File.told D.File.bytes
         (λ r. r.out.ghost_name) (λ r. r.disk.ghost_name) (λ r. r.machine.ghost_name) (λ r. r.out.now) (λ r. r.disk.now) (λ r. r.machine.now)) };
 
     ghost gives = { λ r job. MayKeep r.machine.now job };

@@ -11,7 +11,7 @@ use Rattle.fj_runner.specs.Going.{IsGoing}
 use Rattle.fj_runner.specs.Looking.{HasLooked, question_in}
 use Rattle.fj_runner.proofs.NextAsks.{some_same}
 use Rattle.fj_job.proofs.Fresh.{fit}
-use Rattle.fj_poll.proofs.UnderWay.{first_way, far, sound_still, put_still, looked_way, none_then, ran_then, ended_then, cut_then, looks_fall}
+use Rattle.fj_poll.proofs.UnderWay.{first_way, far, sound_still, put_still, looked_way, none_then, before_then, ran_then, ended_then, cut_then, looks_fall}
 use Rattle.fj_poll.proofs.carrying.carry_polled.Goals as goal
 
 pub stretches-init : goal.stretches-init
@@ -53,6 +53,7 @@ returns-in-None g c =
         sound = sound_still tells_out taken count_out tells held count refusals told bytes meaning _ _ _ _ _ _ _ u _ _ _ c.carry_stretch.new.slots it.leaves;
         put = put_still tells_out taken count_out tells held count refusals told bytes meaning _ _ _ _ _ _ _ u _ _ _ c.carry_stretch.new.slots it.leaves;
         none = none_then tells_out taken count_out tells held count refusals told bytes meaning _ _ _ _ _ _ _ u _ _ _ c.carry_stretch.new.slots it.leaves come none;
+        none_before = before_then tells_out taken count_out tells held count refusals told bytes meaning _ _ _ _ _ _ _ u _ _ _ c.carry_stretch.new.slots it.leaves come none;
         ran = ran_then tells_out taken count_out tells held count refusals told bytes meaning _ _ _ _ _ _ _ u _ _ _ c.carry_stretch.new.slots it.leaves come none;
         cut = cut_then tells_out taken count_out tells held count refusals told bytes meaning _ _ _ _ _ _ _ u _ _ _ c.carry_stretch.new.slots it.leaves come none;
         ended = ended_then tells_out taken count_out tells held count refusals told bytes meaning _ _ _ _ _ _ _ u _ _ _ c.carry_stretch.new.slots it.leaves come none;

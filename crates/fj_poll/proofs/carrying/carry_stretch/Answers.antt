@@ -82,6 +82,6 @@ returns-clause-comes g c = λ origin out0 disk0 m0 b.
     let running = not_stopped old.tally.stopped old.tally.over old.tally.stop b.going in
     rw (o, d, m) (has_come meaning _ g.W.Sink.tells g.W.Sink.taken g.W.Sink.count g.D.Disk.tells g.D.Disk.count g.D.Disk.refusals g.D.Disk.told g.D.Disk.held g.D.File.FileStore.told g.D.File.FileStore.bytes
     (λ r. r.out.now) (λ r. r.disk.now) (λ r. r.machine.now) origin out0 disk0 m0 _ c.serve_with.new.script c.args.slots.now c.serve_with.new.slots
-    (record { over = λ a. refl; stopped = λ a. refl; state = λ a. refl; due = λ a. refl; leaves = λ a b h. h.leaves; gives_up = λ a b h. h.gives_up; asking = λ a b h. h.asking; stays = λ a b h. h.stays; reason = λ a b h. h.reason; keeps = λ a b h. h.keeps })
+    (record { over = λ a. refl; stopped = λ a. refl; state = λ a. refl; due = λ a. refl; leaves = λ a b h. h.leaves; gives_up = λ a b h. h.gives_up; asking = λ a b h. h.asking; stays = λ a b h. h.stays; reason = λ a b h. h.reason; keeps = λ a b h. h.keeps }) (λ a b h. h.short)
     c.serve_with.ensures.leads b (c.serve_with.ensures.alone b.run b.slots known running b.fit) (λ over. c.serve_with.ensures.gave_up b.run b.slots known running b.going b.fit over)
     (bays_full g.D.File.FileStore.told g.D.File.FileStore.bytes g.D.File.FileStore.count))

@@ -1,4 +1,4 @@
-use Rattle.std.proofs.Common.{refl, sym, ap, ◌∙◌, subst}
+use Rattle.std.proofs.Common.{◌+◌, refl, sym, ap, ◌∙◌, subst}
 use Rattle.std.specs.declared.alloc.Global.{Global}
 use Rattle.std.specs.declared.vec.Vec.{Vec}
 use Rattle.fj_bay.specs.Meaning.{bay_meaning}
@@ -7,7 +7,7 @@ use Rattle.fj_units.specs.Files.{files_of}
 use Rattle.fj_runner.specs.declared.looking.Look.{Look}
 use Rattle.fj_job.proofs.CarriedOut.{carried_out}
 use Rattle.fj_job.proofs.Settling.{in_use_none}
-use Rattle.fj_poll.specs.Looks.{IsPut}
+use Rattle.fj_poll.specs.Looks.{IsPut, NoneLooksBefore}
 use Rattle.fj_poll.proofs.Executed.{not_begun}
 use Rattle.fj_poll.proofs.executing.carry_out_polled.Goals as goal
 
@@ -33,6 +33,7 @@ returns g c =
         };
         looks = sym (ap (λ (v : Vec Look Global). v.items) settled.looks);
         none = λ t going. it.none t (sym settled.over ∙ going);
+        none_before = λ t. subst (λ place. NoneLooksBefore c.carry_polled.new.machine.deck (files_of (g.D.Disk.held c.args.disk.now)) (place + 1)) (sym settled.at) (it.none_before t);
         carried =
             carried_out g.W.Sink.tells g.W.Sink.taken g.W.Sink.count g.D.Disk.tells g.D.Disk.held g.D.Disk.count g.D.Disk.refusals
             (bay_meaning g.D.File.FileStore.told g.D.File.FileStore.bytes g.D.File.FileStore.count)

@@ -37,6 +37,16 @@ returns-in-Err-clause-fails g c = λ tells r e going over stopped.
     (λ lost e. ap Err (only_first mid.tally.lost mid.tally.over c.in-Err.lost lost mid.tally.lost_over goes (sym c.lose.ensures.lost ∙ e)))
     (λ e. c.lose.ensures.lost ∙ ap (λ o. first_lost o c.in-Err.lost) (first_some mid.tally.lost mid.tally.over mid.tally.lost_over goes) ∙ ap Some (lost_is e)) (c.in-Err.ensures.fails tells r e))
 
+pub returns-then-self-clause-short : goal.returns-then-self-clause-short
+returns-then-self-clause-short g c = λ tells r e idle going over. absurd (not_both c.args.self.now.tally.over c.if-self.true going)
+
+pub returns-in-Ok-clause-short : goal.returns-in-Ok-clause-short
+returns-in-Ok-clause-short g c = λ tells r e idle going over.
+    absurd (not_both c.admit.new.self.tally.over over (c.admit.ensures.admitted.over ∙ ap (λ t. t.over) c.next_ask.ensures.tally ∙ going))
+
+pub returns-in-Err-clause-short : goal.returns-in-Err-clause-short
+returns-in-Err-clause-short g c = λ tells r e idle going over. c.in-Err.ensures.short tells r e
+
 pub returns-in-Ok-clause-on : goal.returns-in-Ok-clause-on
 returns-in-Ok-clause-on g c = λ going over.
     let m = c.args.self.now in

@@ -1,4 +1,4 @@
-use Rattle.std.proofs.Common.{◌≡◌, ◌+◌, ◌≤◌, length, ap, sym, subst, IfSome, IfOk, arith}
+use Rattle.std.proofs.Common.{◌≡◌, ◌+◌, ◌≤◌, length, ap, sym, subst, IfSome, IfOk, OnErr, arith}
 use Rattle.fj_statement.specs.Sound.{IsSound}
 use Rattle.fj_plain.specs.State.{Files}
 use Rattle.fj_units.specs.Files.{files_of}
@@ -6,7 +6,8 @@ use Rattle.fj_turns.specs.Run.{Start}
 use Rattle.fj_turns.specs.Turns.{Asked}
 use Rattle.fj_looks.specs.Inquiring.{looks_by}
 use Rattle.fj_runner.specs.Turned.{IsAsked}
-use Rattle.fj_runner.specs.Machine.{run_at}
+use Rattle.fj_runner.specs.Machine.{rest_of, run_at}
+use Rattle.fj_runner.specs.Short.{IsShort}
 use Rattle.fj_runner.proofs.Failures.{on_err_by}
 use Rattle.fj_runner.proofs.GivingUp.{fails_like}
 use Rattle.fj_runner.proofs.Going.{none_has}
@@ -66,6 +67,13 @@ returns-in-None-clause-asks g c = λ tells t i.
     let files : Files = files_of (g.D.Disk.held c.args.disk.now) in
     let k = none_has c.asked_by.result _ c.in-None.is (c.asked_by.ensures.passes (looks_by c.args.to_look) files t i) in
     subst (λ (a : Asked). IfOk c.go.result (λ ask. IsAsked g.F.FileStore.told g.F.FileStore.bytes (files_of (g.D.Disk.held c.go.new.disk)) c.go.new.self ask a)) (sym k.1) (c.go.ensures.asks tells k.0)
+
+pub returns-in-None-clause-short : goal.returns-in-None-clause-short
+returns-in-None-clause-short g c = λ tells t i.
+    let files : Files = files_of (g.D.Disk.held c.args.disk.now) in
+    let looks = looks_by c.args.to_look in
+    let k = none_has c.asked_by.result _ c.in-None.is (c.asked_by.ensures.passes looks files t i) in
+    subst (λ (a : Asked). OnErr c.go.result (IsShort looks a (rest_of c.go.new.self))) (sym k.1) (c.go.ensures.short tells)
 
 pub go-requires-clause-start : goal.go-requires-clause-start
 go-requires-clause-start g c = c.in-None.ensures.started

@@ -1,16 +1,19 @@
-use Rattle.std.proofs.Common.{◌≤◌, false, true, sym, ap, subst, ◌∙◌, IfSome, length, refl, arith}
+use Rattle.std.proofs.Common.{◌≤◌, ◌<◌, ◌∷◌, false, true, sym, ap, subst, ◌∙◌, IfSome, length, refl, arith}
 use Rattle.fj_statement.specs.Sound.{IsSound}
 use Rattle.fj_plain.specs.State.{Files}
 use Rattle.fj_turns.specs.Run.{Start}
-use Rattle.fj_turns.specs.Turns.{Asked}
+use Rattle.fj_turns.specs.Turns.{Asked, turn_start}
 use Rattle.fj_looks.specs.Inquiring.{looks_by}
-use Rattle.fj_looks.specs.Looking.{goes_until}
+use Rattle.fj_looks.specs.Looking.{goes_until, turn_until}
+use Rattle.fj_looks.proofs.Going.{goes_turn}
 use Rattle.fj_units.specs.Files.{files_of}
 use Rattle.fj_runner.specs.Machine.{rest_of, run_at}
+use Rattle.fj_runner.specs.Short.{IsShort}
 use Rattle.fj_runner.specs.Turned.{IsAsked}
 use Rattle.fj_runner.proofs.GivingUp.{fails_behind, fails_for}
 use Rattle.fj_runner.proofs.Going.{goes_more, goes_none, goes_same, none_has, still_none}
-use Rattle.fj_runner.proofs.NextAsks.{ends_asked, rest_none, stops_at}
+use Rattle.fj_runner.proofs.NextAsks.{behind_at, ends_asked, here_at, rest_none, stops_at}
+use Rattle.fj_runner.proofs.Shortly.{hand_short, rest_long, short_as}
 use Rattle.fj_runner.proofs.Stepping.{went, given_up, then_steps, err_steps, ok_steps}
 use Rattle.fj_runner.specs.Fitting.{HasRoom}
 use Rattle.fj_runner.specs.Going.{KeepsToSlots, SentFor}
@@ -106,6 +109,21 @@ returns-in-Err-clause-fails g c = λ tells.
     (run_at (files_of (g.D.Disk.held c.args.disk.now)) m Start) (run_at (files_of (g.D.Disk.held c.loop-self.disk)) half Start) m half c.begin_next.new.self p.1 it.steps.telling_out.0 it.steps.output (it.steps.own tells) (ap (λ t. t.hand) it.tally)
     (fails_for _ _ (g.W.Sink.tells c.loop-self.out) (taken c.loop-self.out) (taken c.begin_next.new.out) (run_at (files_of (g.D.Disk.held c.loop-self.disk)) half Start) half c.begin_next.new.self
     (λ lost e. cc) (λ e. cc) (c.in-Err.ensures.fails (it.steps.telling.0 tells)))
+
+pub returns-in-Err-clause-short : goal.returns-in-Err-clause-short
+returns-in-Err-clause-short g c = λ tells.
+    let looks = looks_by c.args.to_look in
+    let mid = c.stops_here.new.self in
+    let new = c.begin_next.new.self in
+    let it = goes_same c.stops_here.ensures.same c.loop-self.invariant in
+    let files : Files = files_of (g.D.Disk.held c.loop-self.disk) in
+    let none = still_none looks files c.loop-self.self mid c.stops_here.result c.stops_here.ensures.same (c.stops_here.ensures.stops files) false c.if-stops_here.false in
+    let low : mid.at.place < length mid.deck.statements = rw c.stops_here.ensures.same (omega arith) in
+    let h = here_at mid low in
+    let k = it.goes tells c.requires.start in
+    subst (λ (a : Asked). IsShort looks a (rest_of new)) (sym (k.1 ∙ goes_turn looks h.0 (behind_at mid) (run_at files mid Start) h.1 none))
+    (short_as looks (turn_until looks (behind_at mid) (turn_start h.0 (run_at files mid Start))) (h.0 ∷ behind_at mid) (rest_of new)
+    (rest_long mid new c.begin_next.ensures.deck c.in-Err.ensures.still_at ∙ ap length h.1) (hand_short looks h.0 (behind_at mid) (run_at files mid Start) h.1))
 
 pub returns-in-Err-clause-steps : goal.returns-in-Err-clause-steps
 returns-in-Err-clause-steps g c =

@@ -1,4 +1,4 @@
-use Rattle.std.proofs.Common.{◌≡◌, ◌+◌, ◌<◌, ◌≤◌, ◌^◌, List, ◌∷◌, length, None, Err, IfOk, refl, sym, ap, ◌∙◌, subst, arith}
+use Rattle.std.proofs.Common.{◌≡◌, ◌+◌, ◌<◌, ◌≤◌, ◌^◌, List, ◌∷◌, length, None, Err, IfOk, OnErr, refl, sym, ap, ◌∙◌, subst, arith}
 use Rattle.fj_statement.specs.Sound.{IsSound}
 use Rattle.fj_plain.specs.State.{Files}
 use Rattle.fj_plain.specs.Statement.{Stated}
@@ -12,12 +12,14 @@ use Rattle.fj_turns.specs.Passing.{passed_by}
 use Rattle.fj_acts.specs.State.{core_of}
 use Rattle.fj_looks.proofs.Rests.{HasBegun}
 use Rattle.fj_runner.specs.Machine.{rest_of, run_at, stage_at}
+use Rattle.fj_runner.specs.Short.{IsShort}
 use Rattle.fj_runner.specs.Turned.{IsAsked}
 use Rattle.fj_runner.specs.declared.tally.Tally.{Tally}
 use Rattle.fj_runner.proofs.AtHand.{behind_jobs, behind_same}
 use Rattle.fj_runner.proofs.Failures.{on_err_by}
 use Rattle.fj_runner.proofs.GivingUp.{fails_behind, fails_for, fails_run, passed_at, passes_one}
 use Rattle.fj_runner.proofs.NextAsks.{at_start, begun_stage, behind_at, done_asked, ended_asked, here_at, not_ended, rests_asked, run_known, some_same}
+use Rattle.fj_runner.proofs.Shortly.{hand_short, rest_long, short_as}
 use Rattle.fj_runner.proofs.Stepping.{then_steps}
 use Rattle.fj_runner.specs.Spending.{Spent, jobs_at, jobs_from, jobs_left}
 use Rattle.fj_runner.proofs.Spending.{from_next, is_none_by, ok_lives, some_ended}
@@ -96,6 +98,54 @@ returns-then-is_some-clause-asks g c = λ tells r known.
           let low : length m.deck.statements ≤ m.at.place = omega arith in
           rests_asked looks told bytes files m r known (done_asked looks files m k.0 r k.2 (sym c.is_some.ensures ∙ w.if-is_some.false) low)
     ]
+
+pub returns-in-Ok-clause-short : goal.returns-in-Ok-clause-short
+returns-in-Ok-clause-short g c = λ tells r known.
+    let told = g.F.FileStore.told in
+    let bytes = g.F.FileStore.bytes in
+    let m = c.args.self.now in
+    let files : Files = files_of (g.D.Disk.held c.args.disk.now) in
+    let low : m.at.place < length m.deck.statements = omega arith in
+    let h = here_at m low in
+    let k = run_known (run_at files m) (stage_at told bytes files m) r known in
+    let rest : r.rest ≡ h.0 ∷ behind_at m = ap (λ (x : Run). x.rest) (sym k.2) ∙ h.1 in
+    let t : Turn = turn h.0 r.stage r in
+    let none : r.ending ≡ None = ap (λ (x : Run). x.ending) (sym k.2) ∙ not_ended m.state.ending (sym c.is_some.ensures ∙ c.if-is_some.false) in
+    let looks = looks_by c.args.to_look in
+    let left = rest_of c.ask_or_go.new.self in
+    let begun = begun_stage told bytes m.deck.variables (rest_of m) (core_of files m.state.core) m.state.stage k.0 k.1 c.in_default.not-Start in
+    subst (λ (a : Asked). OnErr c.ask_or_go.result (IsShort looks a left)) (sym (asked_begun looks h.0 (behind_at m) r none rest (subst (λ (x : Run). HasBegun x.stage) k.2 begun)))
+    (subst (λ (more : List Stated). OnErr c.ask_or_go.result (IsShort looks (turn_until looks more t) left)) (behind_same m c.turn.new.self c.turn.ensures.deck c.turn.ensures.place)
+    (c.ask_or_go.ensures.short (c.turn.ensures.steps.telling.0 tells) t (c.in-Ok.ensures.turn tells r h.0 (behind_at m) known h.1)))
+
+pub returns-in-Err-clause-short : goal.returns-in-Err-clause-short
+returns-in-Err-clause-short g c = λ tells r known.
+    let told = g.F.FileStore.told in
+    let bytes = g.F.FileStore.bytes in
+    let m = c.args.self.now in
+    let files : Files = files_of (g.D.Disk.held c.args.disk.now) in
+    let low : m.at.place < length m.deck.statements = omega arith in
+    let h = here_at m low in
+    let k = run_known (run_at files m) (stage_at told bytes files m) r known in
+    let rest : r.rest ≡ h.0 ∷ behind_at m = ap (λ (x : Run). x.rest) (sym k.2) ∙ h.1 in
+    let none : r.ending ≡ None = ap (λ (x : Run). x.ending) (sym k.2) ∙ not_ended m.state.ending (sym c.is_some.ensures ∙ c.if-is_some.false) in
+    let looks = looks_by c.args.to_look in
+    let begun = begun_stage told bytes m.deck.variables (rest_of m) (core_of files m.state.core) m.state.stage k.0 k.1 c.in_default.not-Start in
+    subst (λ (a : Asked). IsShort looks a (rest_of c.turn.new.self)) (sym (asked_begun looks h.0 (behind_at m) r none rest (subst (λ (x : Run). HasBegun x.stage) k.2 begun)))
+    (short_as looks (turn_until looks (behind_at m) (turn h.0 r.stage r)) (h.0 ∷ behind_at m) (rest_of c.turn.new.self)
+    (rest_long m c.turn.new.self c.turn.ensures.deck c.turn.ensures.place ∙ ap length h.1) (hand_short looks h.0 (behind_at m) r rest))
+
+pub returns-in-Start-clause-short : goal.returns-in-Start-clause-short
+returns-in-Start-clause-short g c = λ tells r known.
+    let told = g.F.FileStore.told in
+    let bytes = g.F.FileStore.bytes in
+    let m = c.args.self.now in
+    let looks = looks_by c.args.to_look in
+    let files : Files = files_of (g.D.Disk.held c.args.disk.now) in
+    let first : Run = run_at files m Start in
+    let none = not_ended m.state.ending (sym c.is_some.ensures ∙ c.if-is_some.false) in
+    subst (λ (x : Run). OnErr c.go.result (IsShort looks (asked_until looks x) (rest_of c.go.new.self))) (some_same first r (sym (at_start told bytes files m c.in-Start.is) ∙ known))
+    (subst (λ (a : Asked). OnErr c.go.result (IsShort looks a (rest_of c.go.new.self))) (sym (asked_start looks first none refl)) (c.go.ensures.short tells))
 
 pub returns-in-Ok-clause-follows : goal.returns-in-Ok-clause-follows
 returns-in-Ok-clause-follows g c = λ i.

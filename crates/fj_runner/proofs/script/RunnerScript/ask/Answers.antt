@@ -1,6 +1,7 @@
-use Rattle.std.proofs.Common.{◌≡◌, true, cond, None, refl, sym, ap, subst, ◌∙◌, arith}
+use Rattle.std.proofs.Common.{◌≡◌, false, true, cond, None, refl, sym, ap, subst, ◌∙◌, arith}
 use Rattle.fj_plain.specs.State.{Files}
 use Rattle.fj_turns.specs.Turns.{asked}
+use Rattle.fj_looks.specs.Inquiring.{looks_by}
 use Rattle.fj_looks.proofs.Never.{asked_never}
 use Rattle.fj_units.specs.Files.{files_of}
 use Rattle.fj_runner.specs.Turned.{IsAsked}
@@ -9,6 +10,7 @@ use Rattle.fj_runner.specs.Tallying.{owed_at}
 use Rattle.fj_runner.specs.declared.hand.Hand.TheVariants.{Idle}
 use Rattle.fj_runner.proofs.GivingUp.{given_up_told}
 use Rattle.fj_runner.proofs.Scripting.{asks_of, asked_told}
+use Rattle.fj_runner.proofs.Shortly.{short_told}
 use Rattle.fj_runner.proofs.Tallies.{asking}
 use Rattle.std.proofs.Math.Logic.{∥∥₁_elim, ∥∥₁_map}
 use Rattle.fj_runner.specs.Going.{asked_for}
@@ -43,6 +45,7 @@ returns-clause-asks g c =
       leaves = it.leaves;
       gives_up = given_up_told (g.W.Sink.tells old.out.now) (g.W.Sink.taken old.out.now) (g.W.Sink.taken c.next_of.new.out) (g.D.Disk.told disk) (run_of told bytes files m) m new
           (λ t. it.fails ((g.met.D.Disk.decided disk).0 t));
+      short = short_told (looks_by false) (g.D.Disk.told disk) (run_of told bytes files m) m new (λ t. it.short ((g.met.D.Disk.decided disk).0 t));
       asking = record {
         outside = λ going d. idle;
         same_disk = λ asks. absurd (asks idle);

@@ -40,6 +40,7 @@ returns g c =
         leaves = rests_leaves old.out.now old.disk.now m new it.rests;
         gives_up = given_up_told (g.W.Sink.tells old.out.now) (g.W.Sink.taken old.out.now) (g.W.Sink.taken old.out.now) (g.D.Disk.told old.disk.now) (run_of told bytes files m) m new
             (λ _. rests_give_up told bytes (g.W.Sink.tells old.out.now) (g.W.Sink.taken old.out.now) files m new (λ idle. subst (λ h. IsSettling (due_of h)) idle c.requires) it.rests);
+        short = λ r e idle. absurd (subst (λ h. IsSettling (due_of h)) idle c.requires);
         asking = rests_ask old.disk.now m new it.rests (λ going over stop. absurd (only_stop (is_done c.args.told) m.tally.over new.tally.over new.tally.stopped it.goes it.halts going over stop));
         stays = λ over. absurd (not_both m.tally.over over (settling_runs m.tally.hand m.tally.over m.tally.left m.tally.owed.items m.tally.settles c.requires));
         reason = it.reason;

@@ -8,6 +8,7 @@ use Rattle.fj_runner.specs.Tallying.{owed_at}
 use Rattle.fj_runner.specs.declared.hand.Hand.TheVariants.{Idle}
 use Rattle.fj_runner.proofs.GivingUp.{given_up_told}
 use Rattle.fj_runner.proofs.Scripting.{asks_of, asked_told}
+use Rattle.fj_runner.proofs.Shortly.{short_told}
 use Rattle.fj_runner.proofs.Tallies.{asking}
 use Rattle.std.proofs.Math.Logic.{∥∥₁_elim, ∥∥₁_map}
 use Rattle.fj_runner.specs.Going.{asked_for}
@@ -42,6 +43,7 @@ returns-clause-asks g c =
       leaves = it.leaves;
       gives_up = given_up_told (g.W.Sink.tells old.out.now) (g.W.Sink.taken old.out.now) (g.W.Sink.taken c.next_of.new.out) (g.D.Disk.told disk) (run_of told bytes files m) m new
           (λ t. it.fails ((g.met.D.Disk.decided disk).0 t));
+      short = short_told is_looking (g.D.Disk.told disk) (run_of told bytes files m) m new (λ t. it.short ((g.met.D.Disk.decided disk).0 t));
       asking = record {
         outside = λ going d. idle;
         same_disk = λ asks. absurd (asks idle);

@@ -38,6 +38,7 @@ returns g c =
         leaves = rests_leaves old.out.now old.disk.now m new it.rests;
         gives_up = given_up_told (g.W.Sink.tells old.out.now) (g.W.Sink.taken old.out.now) (g.W.Sink.taken old.out.now) (g.D.Disk.told old.disk.now) (run_of told bytes files m) m new
             (λ _. rests_give_up told bytes (g.W.Sink.tells old.out.now) (g.W.Sink.taken old.out.now) files m new (λ idle. subst (λ h. IsSubmitting (due_of h)) idle c.requires.submitting) it.rests);
+        short = λ r e idle. absurd (subst (λ h. IsSubmitting (due_of h)) idle c.requires.submitting);
         asking = rests_ask old.disk.now m new it.rests (λ going over stop. c.requires.submitting);
         stays = λ over. absurd (not_both m.tally.over over (submitting_runs m.tally.hand m.tally.over m.tally.left m.tally.submits c.requires.submitting));
         reason = it.reason;
