@@ -6,6 +6,7 @@ use fj_outside::{
     Disk, FailingSink, FailingSource, GateDisk, MemoryDisk, MemorySink, MemorySource, Sink, Source,
 };
 use fj_poll::{Status, poll_job};
+use fj_value::Rule;
 use std::alloc::{AllocError, Global};
 use std::sync::Wait;
 use std::test::Fail;
@@ -191,6 +192,56 @@ fn a_transfer_that_was_let_go_is_told(rt: HostRuntime) -> Result<(), Fail> {
     for words in ["poll --workers 0", "poll --workers 1", "poll --workers 4"] {
         assert!(rt; is_let_go(&rt, rt.alloc(), words)?, "{words}");
     }
+    Ok(())
+}
+
+/// A deck that looks at two transfers, of which the first is done and nobody has begun the second, and then at the first alone.
+static FIRST_DONE: &[u8] =
+    b"LOGICAL L\nINTEGER N\nOPEN(10,FILE='P',STATUS='REPLACE',ASYNCHRONOUS='YES')\nWRITE(10,'(I1)',ASYNCHRONOUS='YES') 1\nINQUIRE(10,SIZE=N)\nWRITE(10,'(I1)',ASYNCHRONOUS='YES') 2\nINQUIRE(10,PENDING=L)\nINQUIRE(10,ID=1,PENDING=L)\nEND\n";
+
+#[test]
+fn all_that_are_asked_about_have_to_be_done(rt: HostRuntime) -> Result<(), Fail> {
+    let alloc = rt.alloc();
+    let output = b"? 7 10 T 3\n? 8 10 F 3\n= ended\nL = F\nN = 2\n".as_slice();
+    let file = Some(b"1\n2\n".as_slice());
+    assert!(rt;
+        is_answered(
+            &rt,
+            alloc,
+            "poll --workers 0",
+            FIRST_DONE,
+            Status::Ended,
+            output,
+            file
+        )?
+    );
+    Ok(())
+}
+
+/// A deck that asks about a unit by the place of a pending input: it may not, and does not look.
+static PROHIBITED: &[u8] =
+    b"INTEGER U\nLOGICAL L\nU = 10\nOPEN(10,FILE='P',STATUS='REPLACE',ASYNCHRONOUS='YES')\nOPEN(11,FILE='Q',STATUS='REPLACE',ASYNCHRONOUS='YES')\nWRITE(11,'(I2)') 10\nREWIND 11\nWRITE(10,'(I1)',ASYNCHRONOUS='YES') 1\nREAD(11,'(I2)',ASYNCHRONOUS='YES') U\nINQUIRE(U,PENDING=L)\nEND\n";
+
+#[test]
+fn a_prohibited_inquire_does_not_look(rt: HostRuntime) -> Result<(), Fail> {
+    let alloc = rt.alloc();
+    let status = Status::Prohibited {
+        stmt: 10,
+        rule: Rule::P1,
+    };
+    let output = b"= prohibited at 10 by P1\nU = ?\nL = ?\n".as_slice();
+    let file = Some(ONE);
+    assert!(rt;
+        is_answered(
+            &rt,
+            alloc,
+            "poll --workers 0",
+            PROHIBITED,
+            status,
+            output,
+            file
+        )?
+    );
     Ok(())
 }
 
