@@ -1,7 +1,8 @@
 -- Bytes cut into lines, and values that elements get.
-use Rattle.std.proofs.Common.{◌≡◌, ℕ, ◌+◌, ◌-◌, ◌<◌, ◌≤◌, List, [], ◌∷◌, ◌++◌, length, map, take, drop, refl, sym, ap, ◌∙◌, arith, append_assoc}
+use Rattle.std.proofs.Common.{◌≡◌, ℕ, zero, suc, ◌+◌, ◌-◌, ◌<◌, ◌≤◌, cond, eqb, List, [], ◌∷◌, ◌++◌, length, map, take, drop, get_or, inl, inr, refl, sym, ap, ◌∙◌, arith, append_assoc}
 use Rattle.std.specs.Str.Lines.{strip_carriage_return}
-use Rattle.std.proofs.lemmas.List.{take_all, drop_all, length-drop, length-append, length-map}
+use Rattle.std.proofs.lemmas.Bool.{cases_lt, cases_Bool}
+use Rattle.std.proofs.lemmas.List.{take-take, take_all, drop_all, length-take, length-drop, length-append, length-map}
 use Rattle.fj_value.specs.declared.value.Cell.{Cell}
 use Rattle.fj_value.specs.declared.value.Value.{Value}
 use Rattle.fj_list.specs.ListInput.{with_value}
@@ -53,3 +54,31 @@ some_left size values rest bytes so_far some =
       length-map (lines bytes) (value_of size),
       ap (λ (l : List (List ℕ)). length l) (lines_first rest some),
     )
+
+-- the first line stands first
+
+taken_length : (n : ℕ) (xs : List ℕ) → take (length (take n xs)) xs ≡ take n xs
+taken_length zero xs = refl
+taken_length (suc n) [] = refl
+taken_length (suc n) (x ∷ xs) = ap (λ (ys : List ℕ). x ∷ ys) (taken_length n xs)
+
+first_front : (bytes : List ℕ) → (n : ℕ) × (first_line bytes ≡ take n bytes)
+first_front bytes = elim (cases_lt (line_feed_place bytes) (length bytes)) [
+  | inl fed ↦
+      let line : List ℕ = take (line_feed_place bytes) bytes in
+      elim (cases_Bool (eqb (get_or line (length line - 1) 0) 13)) [
+        | inl return ↦ (
+          length line - 1,
+          first_line_ended bytes fed
+              ∙ ap (λ b. cond b (take (length line - 1) line) line) return
+              ∙ take-take (length line - 1) (line_feed_place bytes) bytes (omega (arith, length-take (line_feed_place bytes) bytes)),
+        )
+        | inr plain ↦ (line_feed_place bytes, first_line_ended bytes fed ∙ ap (λ b. cond b (take (length line - 1) line) line) plain)
+      ]
+  | inr past ↦ (length bytes, first_line_last bytes (omega (arith, past, place-le-length bytes)) ∙ sym (take_all (length bytes) bytes (omega arith)))
+]
+
+pub first_taken : (bytes : List ℕ) → take (length (first_line bytes)) bytes ≡ first_line bytes
+first_taken bytes =
+    let f = first_front bytes in
+    ap (λ (l : List ℕ). take (length l) bytes) f.1 ∙ taken_length f.0 bytes ∙ sym f.1

@@ -5,6 +5,8 @@ pub mod Fitting
 pub mod Heads
 pub mod KeptKinds
 pub mod LawProofs
+pub mod OneLine
+pub mod OneTaken
 pub mod Reading
 pub mod Stepping
 pub mod Writing

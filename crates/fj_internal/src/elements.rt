@@ -18,7 +18,7 @@ pub fn characters(cell: &Cell) -> &[u8]
 }
 
 /// Whether a line feed or a carriage return is among characters.
-fn holds_line_end(chars: &[u8]) -> bool
+pub(crate) fn holds_line_end(chars: &[u8]) -> bool
     ensures { result ≡ holds_line_end chars.now }
 {
     match memchr2(b'\n', b'\r', chars) {

@@ -1,5 +1,5 @@
 // What a WRITE wrote, cut into records.
-ghost use Rattle.std.specs.Prelude.{◌≡◌, ◌<◌, ◌≤◌, length, map, IfOk, IfSome, IfNone};
+ghost use Rattle.std.specs.Prelude.{◌≡◌, ◌<◌, ◌≤◌, length, map, take, IfOk, IfSome, IfNone};
 ghost use Rattle.std.specs.Str.Lines.{strip_carriage_return};
 ghost use Rattle.fj_seqrec.specs.Lines.{lines, first_line, behind_line};
 ghost use Rattle.fj_value.specs.Reading.{assigned_text};
@@ -21,7 +21,7 @@ fn without_return(line: &[u8]) -> &[u8]
 }
 
 /// The place of the first line feed, or the length where there is none.
-fn feed_place(bytes: &[u8]) -> usize
+pub(crate) fn feed_place(bytes: &[u8]) -> usize
     ensures { result ≡ line_feed_place bytes.now }
 {
     match memchr(b'\n', bytes) {
@@ -40,6 +40,15 @@ fn first_line(bytes: &[u8], place: usize) -> &[u8]
         return bytes;
     }
     without_return(&bytes[..place])
+}
+
+/// How many bytes the first line has.
+#[tactic(auto, using(crate::proofs::Cutting::first_taken))]
+pub(crate) fn line_length(bytes: &[u8], place: usize) -> usize
+    requires { place ≡ line_feed_place bytes.now }
+    ensures { take result bytes.now ≡ first_line bytes.now }
+{
+    first_line(bytes, place).len()
 }
 
 /// What stands behind the first line.

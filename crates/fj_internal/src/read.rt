@@ -34,7 +34,7 @@ use fj_value::{Cell, Condition, EditModes};
 use std::alloc::{AllocError, Global};
 
 /// Leaves the items of an input that ended with a condition.
-fn leave(cells: &mut Cells, count: Option<u64>, condition: Condition) -> Performed
+pub(crate) fn leave(cells: &mut Cells, count: Option<u64>, condition: Condition) -> Performed
     ensures taken { taken_with cells.new result ≡ taken_at cells.old count condition }
     ensures places { places_of cells.new ≡ places_of cells.old }
 {
@@ -51,7 +51,7 @@ fn leave(cells: &mut Cells, count: Option<u64>, condition: Condition) -> Perform
 }
 
 /// Reads the items from an element that is at hand.
-fn read_from(
+pub(crate) fn read_from(
     alloc: Global,
     text: &[u8],
     behind: &[Cell],
@@ -109,7 +109,7 @@ fn read_explicit(
 }
 
 /// The condition, or want of memory, the only thing that stops where there is no disk.
-fn unstopped(read: Result<Condition, Stop>) -> Result<Condition, AllocError>
+pub(crate) fn unstopped(read: Result<Condition, Stop>) -> Result<Condition, AllocError>
     requires { read ≢ Err Stop.Failed }
     ensures { IfOk result (λ condition. read ≡ Ok condition) }
 {

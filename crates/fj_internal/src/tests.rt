@@ -1,11 +1,11 @@
-// Statements on internal files of two elements, with what they leave written out by hand.
+// Statements on internal files of two elements, and of one, with what they leave written out by hand.
 ghost use Rattle.std.specs.Prelude.{◌≡◌, ◌<◌, ◌≤◌, ◌^◌, [], None, length, All, IfOk};
 ghost use Rattle.fj_list.specs.Moved.{AreDistinct, IsOrdered};
 ghost use Rattle.fj_namelist.specs.GroupText.{IsWithin};
 ghost use Rattle.fj_transfer.specs.Moving.{members_of};
-ghost use Rattle.fj_transfer.specs.Printing.{IsRecords};
+ghost use Rattle.fj_transfer.specs.Printing.{IsOfItems, IsRecords};
 
-use crate::{read_internal, write_internal};
+use crate::{One, read_internal, read_one, write_internal, write_one};
 use Condition::{EndOfFile, Error, Fine};
 use fj_format::parse;
 use fj_list::{Cells, Load, Moved};
@@ -32,6 +32,7 @@ fn elements(alloc: Global, texts: [&[u8]; 2]) -> Result<Cells, AllocError> {
 
 /// `*`, or a format.
 fn layout(alloc: Global, format: &[u8]) -> Result<Layout, AllocError>
+    ensures items { IfOk result (λ layout. IsOfItems layout) }
     ensures records { IfOk result (λ layout. IsRecords layout) }
     ensures none { IfOk result (λ layout. members_of layout ≡ []) }
 {
@@ -65,6 +66,7 @@ fn transfer(alloc: Global, input: bool, format: &[u8], number: i32) -> Result<Tr
     ensures input { IfOk result (λ job. job.spec.input ≡ input) }
     ensures rec { IfOk result (λ job. job.spec.rec ≡ None) }
     ensures pos { IfOk result (λ job. job.spec.pos ≡ None) }
+    ensures items { IfOk result (λ job. IsOfItems job.spec.layout) }
     ensures records { IfOk result (λ job. IsRecords job.spec.layout) }
 {
     let layout = layout(alloc, format)?;
@@ -136,6 +138,17 @@ static WRITES: [Written; 7] = [
     ((b"*", 5), [b"zzzz", b"zzzz"], Fine, [b" 5  ", b"zzzz"]),
 ];
 
+/// The format and the number that are written, the length of the one element, the condition, and its value then, where it gets one.
+type WrittenOne = ((&'static [u8], i32), u32, Condition, Option<&'static [u8]>);
+
+static ONES: [WrittenOne; 5] = [
+    ((b"(I3)", 42), 5, Fine, Some(b" 42  ")),
+    ((b"*", 5), 2, Fine, Some(b" 5")),
+    ((b"(I1/)", 7), 2, Error(31), None),
+    ((b"(I3)", 5), 2, Error(15), None),
+    ((b"(///A)", 5), 2, Error(12), None),
+];
+
 /// The format that is read by, the elements, the condition and the number then, if there is one.
 type Taken = (&'static [u8], [&'static [u8]; 2], Condition, Option<i64>);
 
@@ -149,6 +162,19 @@ static READS: [Taken; 7] = [
     (b"(I2)", [b"7x", b"  "], Error(13), None),
 ];
 
+/// The format that is read by, the characters of the one element, the condition and the number then, if there is one.
+type TakenOne = (&'static [u8], &'static [u8], Condition, Option<i64>);
+
+static ONE_READS: [TakenOne; 7] = [
+    (b"*", b" 42  ", Fine, Some(42)),
+    (b"(I1)", b"78", Fine, Some(7)),
+    (b"(/I1)", b"7", EndOfFile, None),
+    (b"*", b" ", EndOfFile, None),
+    (b"(I1)", b"7\n", Error(32), None),
+    (b"*", b"\r7", Error(32), None),
+    (b"(I2)", b"7x", Error(13), None),
+];
+
 fn writes(alloc: Global, row: &Written) -> Result<bool, AllocError> {
     let ((format, number), before, condition, after) = *row;
     let mut cells = elements(alloc, before)?;
@@ -157,6 +183,35 @@ fn writes(alloc: Global, row: &Written) -> Result<bool, AllocError> {
     let [first, second] = after;
     let are_left = has_text(&cells, 0, first) && has_text(&cells, 1, second);
     Ok(told == condition && are_left && item(&job) == Some(i64::from(number)))
+}
+
+fn writes_one(alloc: Global, row: &WrittenOne) -> Result<bool, AllocError> {
+    let ((format, number), size, condition, text) = *row;
+    let job = transfer(alloc, false, format, number)?;
+    match write_one(alloc, size, &job.spec, job.moved.items())? {
+        One::Put(Value::Chars(chars)) => Ok(condition == Fine && text == Some(chars.bytes())),
+        One::Put(_) => Ok(false),
+        One::Kept(told) => Ok(told == condition && text.is_none()),
+    }
+}
+
+/// The number of the only cell, if it has one.
+fn only(moved: &Moved) -> Option<i64> {
+    match moved.cells.get(0) {
+        Some(cell) => match cell.value {
+            Value::Int(number) => Some(number),
+            Value::Undefined | Value::Log(_) | Value::Chars(_) => None,
+        },
+        None => None,
+    }
+}
+
+fn reads_one(alloc: Global, row: &TakenOne) -> Result<bool, AllocError> {
+    let (format, text, condition, number) = *row;
+    let job = transfer(alloc, true, format, 0)?;
+    let mut cells = moved(alloc, 0)?;
+    let performed = read_one(alloc, text, &job.spec, &mut cells)?;
+    Ok(performed.condition == condition && only(&cells) == number)
 }
 
 fn reads(alloc: Global, row: &Taken) -> Result<bool, AllocError> {
@@ -175,8 +230,22 @@ fn elements_are_written(rt: HostRuntime) {
 }
 
 #[test]
+fn one_element_is_written(rt: HostRuntime) {
+    for (number, row) in ONES.iter().enumerate() {
+        assert!(rt; writes_one(rt.alloc(), row) == Ok(true), "row {number}");
+    }
+}
+
+#[test]
 fn elements_are_read(rt: HostRuntime) {
     for (number, row) in READS.iter().enumerate() {
         assert!(rt; reads(rt.alloc(), row) == Ok(true), "row {number}");
+    }
+}
+
+#[test]
+fn one_element_is_read(rt: HostRuntime) {
+    for (number, row) in ONE_READS.iter().enumerate() {
+        assert!(rt; reads_one(rt.alloc(), row) == Ok(true), "row {number}");
     }
 }

@@ -31,14 +31,14 @@ fn put_lines(alloc: Global, bytes: &[u8], elements: &mut Cells) -> Result<Condit
 }
 
 /// Whether the last record ends, which ADVANCE='NO' leaves open.
-fn ends_record(spec: &TransferSpec) -> bool
+pub(crate) fn ends_record(spec: &TransferSpec) -> bool
     ensures { result ≡ ends_record spec.now }
 {
     spec.advance || !matches!(spec.layout, Layout::Explicit(_))
 }
 
 /// The condition of bytes that are a whole file: 25 where with the line feed that an open record needs they pass its limit.
-fn file_condition(bytes: &[u8], ends: bool) -> Condition
+pub(crate) fn file_condition(bytes: &[u8], ends: bool) -> Condition
     ensures { result ≡ (if nat_lt longest_file (length bytes.now + (if ends then 0 else 1)) then Error 25 else Fine) }
 {
     let feed = if ends { 0 } else { 1 };

@@ -1,4 +1,5 @@
 pub mod Cells
+pub mod Elements
 pub mod Ends
 pub mod Finds
 pub mod Fits

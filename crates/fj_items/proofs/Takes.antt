@@ -1,5 +1,5 @@
 -- Items that are moved out of the variables.
-use Rattle.std.proofs.Common.{◌≡◌, ℕ, ◌+◌, eqb, cond, not, Bool, true, false, List, [], ◌∷◌, ◌++◌, length, map, Option, Some, None, option_map, Result, Ok, Err, IfOk, refl, sym, ap, subst, ◌∙◌, inl, inr, arith}
+use Rattle.std.proofs.Common.{◌≡◌, ℕ, ◌+◌, ◌<◌, ◌^◌, eqb, cond, not, Bool, true, false, List, [], ◌∷◌, ◌++◌, length, map, Option, Some, None, option_map, Result, Ok, Err, IfOk, refl, sym, ap, subst, ◌∙◌, inl, inr, arith, append-nil}
 use Rattle.std.proofs.Math.Path.{fun_ext}
 use Rattle.std.proofs.lemmas.Bool.{false≢true}
 use Rattle.std.proofs.lemmas.Bool.Decides.{nat_tests}
@@ -27,6 +27,7 @@ use Rattle.fj_store.specs.Places.{same_place, places_of, places_in}
 use Rattle.fj_store.specs.Storage.{Storage, cell_at, emptied, without, values_of}
 use Rattle.fj_store.specs.Tables.{with_element, with_cells}
 use Rattle.fj_store.specs.Variables.{Variables, is_at, undefined_at, with_item, moved_from, moved_of}
+use Rattle.fj_store.proofs.PlaceLemmas.{length-counted_from}
 use Rattle.fj_store.proofs.StoreLemmas.{cells_more}
 use Rattle.fj_store.proofs.TableLemmas.{places_tell, mapped_with, with_twice, with_swap}
 use Rattle.fj_transfer.specs.Printing.{control_of}
@@ -36,10 +37,11 @@ use Rattle.fj_plain.specs.Items as plain
 use Rattle.fj_plain.specs.Needs.{number_given}
 use Rattle.fj_plain.specs.Statement.{control_by, control_in}
 use Rattle.fj_plain.specs.Transfers.{layout_of, moved_in}
-use Rattle.fj_items.specs.Gathering.{IsGathered, all_items}
+use Rattle.fj_items.specs.Gathering.{ArePieces, IsGathered, IsNumbered, all_items}
 use Rattle.fj_items.specs.Kinds.{kinds_of}
 use Rattle.fj_items.specs.declared.gathering.Gathered.{Gathered}
-use Rattle.fj_items.proofs.Gathers.{cell_same, cells_are, run_cells_are, run_sizes}
+use Rattle.fj_items.proofs.Finds.{run_numbered}
+use Rattle.fj_items.proofs.Gathers.{alone_is, cell_same, cells_are, run_cells_are, run_sizes}
 use Rattle.fj_plain.proofs.Stored.{shown}
 
 -- ---- places that are made undefined, whether they stand twice or not
@@ -113,6 +115,29 @@ pub taken_values : (variables : List Variable) (s new : Storage) (t : Stated) (g
     → new ≡ without (places_in rs) s → values_of new ≡ undefined_at (moved_in variables (values_of s) t).cells (values_of s)
 taken_values variables s new t g runs rs kinds h e same put =
     ap values_of (put ∙ ap (λ x. without (places_in x) s) same) ∙ taken_vars s (places_in runs) ∙ ap (λ (m : Moved). undefined_at m.cells (values_of s)) (run_moved variables s t g runs kinds h e)
+
+-- those of one run alone
+
+one_run : (s : Storage) (run : Run) → moved_of (map (cell_at s) (places_in (run ∷ []))) ≡ moved_of (map (cell_at s) (places_of run))
+one_run s run = ap (λ ps. moved_of (map (cell_at s) ps)) (append-nil (places_of run))
+
+pub run_taken : (variables : List Variable) (s : Storage) (t : Stated) (run : Run) → s.kinds ≡ kinds_of variables → ArePieces variables (all_items t) (Places run ∷ [])
+    → moved_of (map (cell_at s) (places_in (run ∷ []))) ≡ moved_in variables (values_of s) t
+run_taken variables s t run kinds h = one_run s run ∙ alone_is variables s t run kinds h
+
+pub run_values : (variables : List Variable) (s new : Storage) (t : Stated) (run : Run) → s.kinds ≡ kinds_of variables → ArePieces variables (all_items t) (Places run ∷ []) → new ≡ without (places_in (run ∷ [])) s
+    → values_of new ≡ undefined_at (moved_in variables (values_of s) t).cells (values_of s)
+run_values variables s new t run kinds h put =
+    ap values_of put ∙ taken_vars s (places_in (run ∷ [])) ∙ ap (λ (m : Moved). undefined_at m.cells (values_of s)) (run_taken variables s t run kinds h)
+
+pub run_counted : (s : Storage) (run : Run) (moved : Moved) → moved ≡ moved_of (map (cell_at s) (places_in (run ∷ []))) → run.count < 2 ^ 32 → IsNumbered moved
+run_counted s run moved made few = run_numbered s run moved (made ∙ one_run s run) few
+
+pub run_low : (run : Run) → run.count < 2 ^ 32 → length (places_in (run ∷ [])) < 2 ^ 32
+run_low run few =
+    let places : length (places_in (run ∷ [])) ≡ length (places_of run) = ap (λ (ps : List Place). length ps) (append-nil (places_of run)) in
+    let count : length (places_of run) ≡ run.count = length-counted_from run.var run.first run.count in
+    omega (arith, places, count, few)
 
 -- ---- SIZE=
 

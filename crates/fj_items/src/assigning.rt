@@ -38,7 +38,7 @@ pub(crate) fn elements_of(variables: &Variables, var: u32) -> u32
 }
 
 /// The value of a literal or a place.
-fn value_of(store: &Store, from: &Operand) -> Result<Value, AllocError>
+pub(crate) fn value_of(store: &Store, from: &Operand) -> Result<Value, AllocError>
     ensures { IfOk result (λ value. value ≡ value_of (values_of store.now) from.now) }
 {
     match from {

@@ -59,6 +59,22 @@ fn set_size(variables: &Variables, store: &mut Store, size: Option<Place>, count
     }
 }
 
+/// Items come back with their values, and SIZE= gets its count, or is undefined where there is none.
+pub(crate) fn give_taken(
+    variables: &Variables,
+    store: &mut Store,
+    size: Option<Place>,
+    cells: Cells,
+    count: Option<u64>,
+)
+    requires { store.old.kinds ≡ kinds_of variables.now }
+    ensures vars { values_of store.new ≡ with_size variables.now size count (given_back variables.now cells (values_of store.old)) }
+    ensures kinds { store.new.kinds ≡ store.old.kinds }
+{
+    give_back(variables, store, cells);
+    set_size(variables, store, size, count);
+}
+
 /// The items of an input come back with their values, those that came back, and SIZE= gets its count, or is undefined where there
 /// is none. An output changes nothing.
 #[inline(always)]

@@ -1,5 +1,5 @@
 // READ and WRITE on an internal file, which the statement itself carries out (ISO/IEC 1539-1:2004, 9.3).
-ghost use Rattle.std.specs.Prelude.{◌≡◌, ◌≢◌, ◌↔◌, None, Some, Err, IsTrue, IfOk};
+ghost use Rattle.std.specs.Prelude.{◌≡◌, ◌≢◌, ◌↔◌, true, false, None, Some, Err, IsTrue, IfOk};
 ghost use Rattle.fj_internal.specs.Internal.{IsInput, IsOutput};
 ghost use Rattle.fj_plain.specs.Items.{file_places};
 ghost use Rattle.fj_plain.specs.Statement.{control_by};
@@ -9,10 +9,11 @@ ghost use Rattle.fj_statement.specs.Units.{internal_of};
 ghost use Rattle.fj_statement.specs.declared.statement.Statement.TheVariants as statement;
 ghost use Rattle.fj_store.specs.Places.{places_of};
 ghost use Rattle.fj_store.specs.Storage.{values_of};
-ghost use Rattle.fj_items.specs.Inside.{read_by, written_by};
+ghost use Rattle.fj_items.specs.Inside.{IsPlain, read_by, written_by};
 ghost use Rattle.fj_items.specs.Kinds.{kinds_of};
 ghost use Rattle.fj_items.specs.Shown.{IsOfItems};
 
+use crate::element::{read_element, write_element};
 use crate::gathering::whole;
 use crate::giving::{give_back, give_cells};
 use crate::lost::Lost;
@@ -97,6 +98,52 @@ fn write_to(
     Ok(condition)
 }
 
+/// A READ on an internal file that names neither a record nor a position.
+fn read_file(
+    alloc: Global,
+    variables: &Variables,
+    store: &mut Store,
+    t: &Transfer,
+    file: InternalFile,
+) -> Result<Condition, Lost>
+    requires kinds { store.old.kinds ≡ kinds_of variables.now }
+    requires input { t.now.input ≡ true }
+    requires numbers { (t.now.rec ≡ None) × (t.now.pos ≡ None) }
+    ensures done { IfOk result (λ condition. (values_of store.new, condition)
+        ≡ inside (control_by (statement.Transfer t.now)) variables.now (values_of store.old) t.now (moved_in variables.now (values_of store.old) t.now) file) }
+    ensures kinds { store.new.kinds ≡ store.old.kinds }
+    ensures fits { IsTransfer variables.now t.now → result ≢ Err Lost.Unfit }
+    ensures causes { (result ≢ Err Lost.Disk) × (result ≢ Err Lost.Sink) }
+{
+    let elements = elements_of(alloc, variables, store, file)?;
+    let job = moving(alloc, variables, store, 0, Tag(0), t)?.into_inner();
+    let condition = read_from(alloc, variables, store, t.size, &elements, job)?;
+    Ok(condition)
+}
+
+/// The same of a formatted WRITE of items.
+fn write_file(
+    alloc: Global,
+    variables: &Variables,
+    store: &mut Store,
+    t: &Transfer,
+    file: InternalFile,
+) -> Result<Condition, Lost>
+    requires kinds { store.old.kinds ≡ kinds_of variables.now }
+    requires output { t.now.input ≡ false }
+    requires plain { IsPlain t.now }
+    ensures done { IfOk result (λ condition. (values_of store.new, condition)
+        ≡ inside (control_by (statement.Transfer t.now)) variables.now (values_of store.old) t.now (moved_in variables.now (values_of store.old) t.now) file) }
+    ensures kinds { store.new.kinds ≡ store.old.kinds }
+    ensures fits { IsTransfer variables.now t.now → result ≢ Err Lost.Unfit }
+    ensures causes { (result ≢ Err Lost.Disk) × (result ≢ Err Lost.Sink) }
+{
+    let elements = elements_of(alloc, variables, store, file)?;
+    let job = moving(alloc, variables, store, 0, Tag(0), t)?.into_inner();
+    let condition = write_to(alloc, variables, store, elements, job)?;
+    Ok(condition)
+}
+
 /// A READ or WRITE on an internal file. The items of a READ have their values or are undefined, and the elements of a WRITE theirs;
 /// answers its condition. `Unfit`: it is not formatted, or of a group, it names a record or a position, or the items are too many.
 /// After an `Err` the variables have their kinds, and nothing is said of their values.
@@ -117,12 +164,10 @@ pub fn transfer_inside(
     if !is_of_records(t) {
         return Err(Lost::Unfit);
     }
-    let elements = elements_of(alloc, variables, store, file)?;
-    let job = moving(alloc, variables, store, 0, Tag(0), t)?.into_inner();
-    if t.input {
-        let condition = read_from(alloc, variables, store, t.size, &elements, job)?;
-        return Ok(condition);
+    match file {
+        InternalFile::One(place) if t.input => read_element(alloc, variables, store, t, place),
+        InternalFile::One(place) => write_element(alloc, variables, store, t, place),
+        InternalFile::Whole { var: _ } if t.input => read_file(alloc, variables, store, t, file),
+        InternalFile::Whole { var: _ } => write_file(alloc, variables, store, t, file),
     }
-    let condition = write_to(alloc, variables, store, elements, job)?;
-    Ok(condition)
 }

@@ -3,6 +3,7 @@
 
 mod assigning;
 mod copying;
+mod element;
 mod gathering;
 mod giving;
 mod internal;

@@ -96,7 +96,7 @@ pub(crate) fn is_of_items(control: &Control) -> bool
 }
 
 /// The items of a formatted WRITE where they stand, where they are one run of a variable and no group.
-fn lent<'a>(variables: &Variables, store: &'a Store, t: &Transfer) -> Option<Lent<'a>>
+pub(crate) fn lent<'a>(variables: &Variables, store: &'a Store, t: &Transfer) -> Option<Lent<'a>>
     requires { store.now.kinds ≡ kinds_of variables.now }
     ensures moved { IfSome result (λ row. row ≡ moved_in variables.now (values_of store.now) t.now) }
     ensures items { IfSome result (λ row. IsOfItems t.now.control) }

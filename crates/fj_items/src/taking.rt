@@ -18,7 +18,7 @@ ghost use Rattle.fj_items.specs.Gathering.{IsNumbered};
 ghost use Rattle.fj_items.specs.Kinds.{kinds_of};
 
 use crate::copying::{copied, size_copied};
-use crate::gathering::gather;
+use crate::gathering::{gather, only_run};
 use crate::laying::{is_grouped, layout_for};
 use crate::lost::Lost;
 use crate::number::number_given;
@@ -50,7 +50,7 @@ fn runs_of(alloc: Global, mut pieces: VecDeque<Piece>) -> Result<Items<Run>, Los
 
 /// The items, moved out. `Unfit`: one is a literal, or they are too many.
 #[inline(always)]
-fn taken(
+pub(crate) fn taken(
     alloc: Global,
     variables: &Variables,
     store: &mut Store,
@@ -64,6 +64,9 @@ fn taken(
     ensures fits { IsTransfer variables.now t.now → t.now.input ≡ true → result ≢ Err Lost.Unfit }
     ensures causes { (result ≢ Err Lost.Disk) × (result ≢ Err Lost.Sink) }
 {
+    if let Some(run) = only_run(variables, t) {
+        return Ok(store.take_out(alloc, &[run])?);
+    }
     let gathered = gather(alloc, variables, t)?;
     let runs = runs_of(alloc, gathered.pieces)?;
     let moved = store.take_out(alloc, runs.as_slice())?;

@@ -8,10 +8,10 @@ use Rattle.fj_statement.specs.declared.statement.Statement.TheVariants.{Transfer
 use Rattle.fj_store.specs.Storage.{Storage, values_of}
 use Rattle.fj_transfer.specs.declared.transfer.Transfer.{Transfer as Job}
 use Rattle.fj_items.proofs.Inside.{read_is}
-use Rattle.fj_items.proofs.internal.transfer_inside.Goals as goal
+use Rattle.fj_items.proofs.internal.read_file.Goals as goal
 
-pub returns-then-t-clause-done : goal.returns-then-t-clause-done
-returns-then-t-clause-done c =
+pub returns-clause-done : goal.returns-clause-done
+returns-clause-done c =
     let variables = c.args.variables.now in
     let t = c.args.t.now in
     let s : Storage = c.args.store.now in
@@ -21,4 +21,4 @@ returns-then-t-clause-done c =
     let out : values_of c.moving.new.store ≡ without_values variables t (moved_in variables (values_of s) t) (values_of s) =
     c.in_ok-moving.ensures.vars ∙ ap (λ (x : Storage). without_values variables t (moved_in variables (values_of x) t) (values_of x)) c.in_ok-elements.ensures.same in
     c.in_ok-condition.ensures.done
-    ∙ read_is variables (values_of s) (values_of c.moving.new.store) t c.args.file c.in_ok-elements.elements job c.if-t.true c.in_ok-elements.ensures.cells (ap (λ (m : Moving). m.spec) made) (ap (λ (m : Moving). m.moved) made) out
+    ∙ read_is variables (values_of s) (values_of c.moving.new.store) t c.args.file c.in_ok-elements.elements job c.requires.input c.in_ok-elements.ensures.cells (ap (λ (m : Moving). m.spec) made) (ap (λ (m : Moving). m.moved) made) out
