@@ -1,6 +1,6 @@
 -- What a batch answers, and what of its bytes a sink took.
 use Rattle.std.specs.Prelude.{◌≡◌, ◌⊎◌, ℕ, List, ◌++◌, Option, Some, None}
-use Rattle.fj_items.specs.Handing.{TakesFront, TakesPart}
+use Rattle.fj_run_items.specs.Handing.{TakesFront, TakesPart}
 use Rattle.fj_batch.specs.declared.batch.BatchStatus.{BatchStatus}
 use Rattle.fj_batch.specs.declared.batch.BatchStatus.TheVariants.{Ran, Usage, WriteFault, Memory}
 use Rattle.fj_batch.specs.declared.member.Member.{Member}

@@ -10,7 +10,7 @@ use Rattle.fj_syntax.specs.Words.{keyword_of}
 use Rattle.fj_syntax.specs.Tokens.{AreTokens}
 use Rattle.fj_syntax.specs.declared.token.Token.TheVariants as token
 use Rattle.fj_syntax.specs.declared.written.Written.TheVariants as written
-use Rattle.fj_meaning.specs.Meaning.{Means, meaning, is_within_limits}
+use Rattle.fj_names.specs.Meaning.{Means, meaning, is_within_limits}
 use Rattle.fj_deck.specs.Deck.{IsDeck, IsRefused}
 use Rattle.fj_deck.specs.Line.{empty, is_misplaced, with_statement, LineIs, Stating}
 

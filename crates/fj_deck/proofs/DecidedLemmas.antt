@@ -5,11 +5,11 @@ use Rattle.fj_statement.specs.declared.reason.Reason.TheVariants as reasons
 use Rattle.fj_syntax.specs.Parsing.{OneReading}
 use Rattle.fj_syntax.specs.declared.written.Written.{Written}
 use Rattle.fj_syntax.specs.declared.written.Written.TheVariants as written
-use Rattle.fj_meaning.specs.Declaring.{Declares, Groups, with_declaration, with_group, is_within}
-use Rattle.fj_meaning.specs.Meaning.{IsAnswer, OneMeaning}
-use Rattle.fj_meaning.specs.declared.fault.Fault.{Fault}
-use Rattle.fj_meaning.specs.declared.fault.Fault.TheVariants as fault
-use Rattle.fj_meaning.specs.declared.scope.Scope.{Scope}
+use Rattle.fj_names.specs.Declaring.{Declares, Groups, with_declaration, with_group, is_within}
+use Rattle.fj_names.specs.Meaning.{IsAnswer, OneMeaning}
+use Rattle.fj_names.specs.declared.fault.Fault.{Fault}
+use Rattle.fj_names.specs.declared.fault.Fault.TheVariants as fault
+use Rattle.fj_names.specs.declared.scope.Scope.{Scope}
 use Rattle.fj_deck.specs.Faults.{of_meaning}
 use Rattle.fj_deck.specs.Line.{Adds, Answer, Begun, Declaring, LineIs, Stating, is_misplaced, with_names, with_statement}
 use Rattle.fj_deck.specs.declared.fault.LineFault.TheVariants.{Refused}

@@ -3,7 +3,7 @@ use Rattle.std.proofs.Common.{◌≡◌, ℕ, ◌+◌, true, false, List, [], �
 use Rattle.std.specs.Str.Lines.{lines}
 use Rattle.fj_statement.specs.declared.reason.Reason.{Reason}
 use Rattle.fj_syntax.specs.Parsing.{OneReading}
-use Rattle.fj_meaning.specs.Meaning.{OneMeaning}
+use Rattle.fj_names.specs.Meaning.{OneMeaning}
 use Rattle.fj_deck.specs.Deck.{AreGood, IsRefused, OneDeck, NoneIsBoth, OneRefusal, deck_of}
 use Rattle.fj_deck.specs.Line.{Begun, LineIs, empty, has_ended}
 use Rattle.fj_deck.proofs.DecidedLemmas.{line_once}

@@ -4,10 +4,10 @@ use Rattle.fj_syntax.specs.Parsing.{Parses}
 use Rattle.fj_syntax.specs.declared.fault.SyntaxFault.{SyntaxFault}
 use Rattle.fj_syntax.specs.declared.fault.SyntaxFault.TheVariants as syntax
 use Rattle.fj_syntax.specs.declared.written.Written.{Written}
-use Rattle.fj_meaning.specs.Meaning.{Means}
-use Rattle.fj_meaning.specs.declared.fault.Fault.{Fault}
-use Rattle.fj_meaning.specs.declared.fault.Fault.TheVariants as meaning
-use Rattle.fj_meaning.specs.declared.scope.Scope.{Scope}
+use Rattle.fj_names.specs.Meaning.{Means}
+use Rattle.fj_names.specs.declared.fault.Fault.{Fault}
+use Rattle.fj_names.specs.declared.fault.Fault.TheVariants as meaning
+use Rattle.fj_names.specs.declared.scope.Scope.{Scope}
 use Rattle.fj_deck.specs.Faults.{of_syntax, of_meaning}
 use Rattle.fj_deck.specs.Line.{Answer, Begun, Declaring, LineIs, Refuses, Stating, Takes}
 use Rattle.fj_deck.specs.declared.fault.LineFault.{LineFault}

@@ -26,7 +26,7 @@ use Rattle.fj_syntax.specs.declared.written.Written.TheVariants as written
 use Rattle.fj_syntax.proofs.Holding.{Holds, held, then_any, where_holds}
 use Rattle.fj_syntax.proofs.ParseLemmas.{shorter}
 use Rattle.fj_syntax.proofs.TokenLemmas.{first_again}
-use Rattle.fj_meaning.proofs.StatementSound.{each_length}
+use Rattle.fj_names.proofs.StatementSound.{each_length}
 
 -- ---- a line has no more tokens than bytes
 

@@ -26,11 +26,11 @@ use Rattle.fj_syntax.specs.Statement.{written_of}
 use Rattle.fj_syntax.specs.Tokens.{HasTokens}
 use Rattle.fj_syntax.proofs.ParseLemmas.{statement_none, token_answer}
 use Rattle.std.proofs.lemmas.Bool.{cases_Bool}
-use Rattle.fj_meaning.specs.Declaring.{Declares, Groups, is_within, with_declaration, with_group}
-use Rattle.fj_meaning.specs.Meaning.{HasMeaning, IsFormatOf, Means, format_text, is_within_limits, meaning}
-use Rattle.fj_meaning.specs.declared.fault.Fault.{Fault}
-use Rattle.fj_meaning.specs.declared.fault.Fault.TheVariants as fault
-use Rattle.fj_meaning.specs.declared.scope.Scope.{Scope}
+use Rattle.fj_names.specs.Declaring.{Declares, Groups, is_within, with_declaration, with_group}
+use Rattle.fj_names.specs.Meaning.{HasMeaning, IsFormatOf, Means, format_text, is_within_limits, meaning}
+use Rattle.fj_names.specs.declared.fault.Fault.{Fault}
+use Rattle.fj_names.specs.declared.fault.Fault.TheVariants as fault
+use Rattle.fj_names.specs.declared.scope.Scope.{Scope}
 use Rattle.fj_deck.specs.Deck.{AreGood, IsDeck, IsRefused, SomeAnswer, deck_of}
 use Rattle.fj_deck.specs.Faults.{of_meaning}
 use Rattle.fj_deck.specs.Line.{Adds, Answer, Begun, Declaring, LineIs, Stating, empty, is_misplaced, with_names, with_statement, has_ended}

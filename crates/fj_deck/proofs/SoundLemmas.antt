@@ -13,13 +13,13 @@ use Rattle.fj_statement.specs.declared.statement.Statement.TheVariants as statem
 use Rattle.fj_syntax.specs.declared.written.Written.{Written}
 use Rattle.fj_syntax.specs.declared.written.Written.TheVariants as written
 use Rattle.fj_syntax.specs.Parsing.{names_given}
-use Rattle.fj_meaning.specs.Declaring.{Declares, Groups, with_declaration, with_group}
-use Rattle.fj_meaning.specs.Sound.{AreNamed, IsSoundScope, groups_of}
-use Rattle.fj_meaning.specs.declared.fault.Fault.{Fault}
-use Rattle.fj_meaning.specs.declared.scope.Scope.{Scope}
-use Rattle.fj_meaning.proofs.NamesSound.{groups_declared, names_apart}
-use Rattle.fj_meaning.proofs.ScopeSound.{empty_sound, declared_sound, grouped_sound}
-use Rattle.fj_meaning.proofs.StatementSound.{meaning_sound}
+use Rattle.fj_names.specs.Declaring.{Declares, Groups, with_declaration, with_group}
+use Rattle.fj_names.specs.Sound.{AreNamed, IsSoundScope, groups_of}
+use Rattle.fj_names.specs.declared.fault.Fault.{Fault}
+use Rattle.fj_names.specs.declared.scope.Scope.{Scope}
+use Rattle.fj_names.proofs.NamesSound.{groups_declared, names_apart}
+use Rattle.fj_names.proofs.ScopeSound.{empty_sound, declared_sound, grouped_sound}
+use Rattle.fj_names.proofs.StatementSound.{meaning_sound}
 use Rattle.fj_deck.specs.Deck.{AreGood, DecksAreSound}
 use Rattle.fj_deck.specs.Line.{Adds, Answer, Begun, Declaring, LineIs, Stating, empty, has_ended, is_end, is_misplaced, with_names}
 use Rattle.fj_deck.proofs.MemberLemmas.{HasFew, members_few}

@@ -3,8 +3,8 @@ use Rattle.std.specs.Prelude.{ℕ}
 use Rattle.fj_statement.specs.declared.reason.Reason.TheVariants as reason
 use Rattle.fj_syntax.specs.declared.fault.SyntaxFault.{SyntaxFault}
 use Rattle.fj_syntax.specs.declared.fault.SyntaxFault.TheVariants as syntax
-use Rattle.fj_meaning.specs.declared.fault.Fault.{Fault}
-use Rattle.fj_meaning.specs.declared.fault.Fault.TheVariants as meaning
+use Rattle.fj_names.specs.declared.fault.Fault.{Fault}
+use Rattle.fj_names.specs.declared.fault.Fault.TheVariants as meaning
 use Rattle.fj_deck.specs.declared.fault.DeckFault.{DeckFault}
 use Rattle.fj_deck.specs.declared.fault.DeckFault.TheVariants as deck
 use Rattle.fj_deck.specs.declared.fault.LineFault.{LineFault}

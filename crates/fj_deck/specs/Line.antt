@@ -9,11 +9,11 @@ use Rattle.fj_statement.specs.declared.reason.Reason.{Reason}
 use Rattle.fj_statement.specs.declared.reason.Reason.TheVariants.{LineTooLong, Syntax, TooMany}
 use Rattle.fj_statement.specs.declared.statement.Statement.{Statement}
 use Rattle.fj_statement.specs.declared.statement.Statement.TheVariants as statement
-use Rattle.fj_meaning.specs.Declaring.{Declares, Groups, with_declaration, with_group}
-use Rattle.fj_meaning.specs.Meaning.{Means}
-use Rattle.fj_meaning.specs.Scope as scope
-use Rattle.fj_meaning.specs.declared.fault.Fault.{Fault}
-use Rattle.fj_meaning.specs.declared.scope.Scope.{Scope}
+use Rattle.fj_names.specs.Declaring.{Declares, Groups, with_declaration, with_group}
+use Rattle.fj_names.specs.Meaning.{Means}
+use Rattle.fj_names.specs.Scope as scope
+use Rattle.fj_names.specs.declared.fault.Fault.{Fault}
+use Rattle.fj_names.specs.declared.scope.Scope.{Scope}
 use Rattle.fj_deck.specs.Faults.{of_meaning}
 use Rattle.fj_deck.specs.declared.fault.LineFault.{LineFault}
 use Rattle.fj_deck.specs.declared.fault.LineFault.TheVariants.{Memory, Refused}

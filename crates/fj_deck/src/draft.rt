@@ -5,7 +5,7 @@ ghost use Rattle.fj_deck.specs.Seen.{begun_of};
 ghost use Rattle.fj_deck.specs.Line.{empty, has_ended, is_declaration, is_end, is_misplaced, Adds, LineIs, Stating, Takes};
 
 use crate::fault::LineFault;
-use fj_meaning::{Names, statement};
+use fj_names::{Names, statement};
 use fj_statement::{Deck, Lined, Reason, Statement, Statements};
 use fj_syntax::{Written, parse_line};
 use fj_value::Items;

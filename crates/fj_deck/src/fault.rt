@@ -2,7 +2,7 @@
 ghost use Rattle.std.specs.Prelude.{◌≡◌};
 ghost use Rattle.fj_deck.specs.Faults.{at_line};
 
-use fj_meaning::Fault;
+use fj_names::Fault;
 use fj_statement::Reason;
 use fj_syntax::SyntaxFault;
 use std::alloc::AllocError;

@@ -8,7 +8,7 @@ pub fn one_answer()
     ensures refusal { OneRefusal }
 {
     fj_syntax::one_meaning();
-    fj_meaning::one_meaning();
+    fj_names::one_meaning();
 }
 
 /// Each text is a deck, or is refused at a line for a reason.

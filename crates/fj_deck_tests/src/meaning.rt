@@ -1,6 +1,6 @@
 // What stands of declarations, the items of a statement, and as many variables as there may be. Declarations and statements with what each
 // is answered are in fj_cases.
-use fj_meaning::{Fault, Names, statement};
+use fj_names::{Fault, Names, statement};
 use fj_statement::{Control, InternalFile, Operand, Statement, Transfer, UnitRef};
 use fj_syntax::{Written, parse_line};
 use fj_value::{Kind, Place, Value};

@@ -1,6 +1,6 @@
 // What stands before the line that is refused.
 
-use fj_meaning::{Fault, Names};
+use fj_names::{Fault, Names};
 use fj_syntax::{SyntaxFault, Written, next_line, parse_line};
 use std::alloc::{AllocError, Global};
 

@@ -6,8 +6,8 @@ use crate::token::{Shape, Token, amount, closed, cut, last};
 use crate::told::{Look, Part, Told};
 use crate::value::{Seen, name, operand, place, single};
 use crate::words::look_up;
-use fj_meaning::Names;
 use fj_modes::is_file_name;
+use fj_names::Names;
 use fj_value::Kind;
 
 /// The largest unit, and the largest record length.

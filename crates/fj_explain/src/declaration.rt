@@ -4,7 +4,7 @@ use crate::token::{Token, closed, cut, last};
 use crate::told::{Look, Part};
 use crate::value::{name, subscript, variable};
 use crate::words::look_up;
-use fj_meaning::Names;
+use fj_names::Names;
 
 const UNSET: &str = "a declaration sets no value: write an assignment after the declarations";
 

@@ -7,7 +7,7 @@ use crate::token::{Shape, Token, closed, last, parted};
 use crate::told::{Look, Part, Told};
 use crate::value::{operand, place};
 use crate::words::{FOREIGN, KEYWORDS, Keyword, look_up};
-use fj_meaning::Names;
+use fj_names::Names;
 use fj_value::Kind;
 
 const NO_STATEMENT: &str =

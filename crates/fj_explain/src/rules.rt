@@ -5,7 +5,7 @@ use crate::specifiers::Statement;
 use crate::token::{Shape, Token, cut};
 use crate::told::{Look, Part};
 use crate::value::variable;
-use fj_meaning::Names;
+use fj_names::Names;
 use fj_value::Kind;
 
 /// The arguments of a statement by their specifiers.

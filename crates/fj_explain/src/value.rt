@@ -3,7 +3,7 @@
 use crate::token::{Shape, Token, amount, closed, find};
 use crate::told::{Look, Part, Told};
 use crate::words::{KEYWORDS, look_up};
-use fj_meaning::Names;
+use fj_names::Names;
 use fj_statement::Variable;
 use fj_value::Kind;
 

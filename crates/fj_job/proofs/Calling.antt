@@ -15,14 +15,14 @@ use Rattle.fj_statement.specs.declared.statement.Transfer.{Transfer}
 use Rattle.fj_statement.specs.declared.statement.Statement.{Statement}
 use Rattle.fj_statement.specs.declared.statement.Statement.TheVariants as statement
 use Rattle.fj_book.specs.Prohibitions.{prohibited}
-use Rattle.fj_plain.specs.Needs.{need, holders, number_of}
-use Rattle.fj_plain.specs.State.{State, Files, Unit, found}
-use Rattle.fj_plain.specs.Statement.{own, instead, acts, goes_on, step}
-use Rattle.fj_plain.specs.Telling.{is_asynchronous, after_tells, waited, condition_of}
-use Rattle.fj_plain.specs.Transfers.{moved_by, transferred, unless_refused, on_unit, transfer_at}
-use Rattle.fj_plain.specs.Connecting.{moves}
-use Rattle.fj_cut.specs.Awaiting.{WaitsAt}
-use Rattle.fj_acts.specs.Calling.{calls_disk}
+use Rattle.fj_meaning.specs.Needs.{need, holders, number_of}
+use Rattle.fj_meaning.specs.State.{State, Files, Unit, found}
+use Rattle.fj_meaning.specs.Statement.{own, instead, acts, goes_on, step}
+use Rattle.fj_meaning.specs.Telling.{is_asynchronous, after_tells, waited, condition_of}
+use Rattle.fj_meaning.specs.Transfers.{moved_by, transferred, unless_refused, on_unit, transfer_at}
+use Rattle.fj_meaning.specs.Connecting.{moves}
+use Rattle.fj_meaning_cut.specs.Awaiting.{WaitsAt}
+use Rattle.fj_run_statements.specs.Calling.{calls_disk}
 use Rattle.fj_job.specs.Faulting.{does_without_file, SomeLearnNothing, OthersLeaveFiles}
 
 -- ---- no fault is learnt there

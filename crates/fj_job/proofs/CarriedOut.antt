@@ -10,13 +10,13 @@ use Rattle.fj_slot.specs.Serving.{Meaning}
 use Rattle.fj_bay.specs.Bay.{Bay}
 use Rattle.fj_bay.specs.Jobs.{Job, Answer}
 use Rattle.fj_world.specs.Rack.{Rack}
-use Rattle.fj_items.specs.Handing.{whole_records}
-use Rattle.fj_items.specs.declared.lost.Lost.TheVariants.{Sink, Disk}
-use Rattle.fj_units.specs.Files.{files_of}
-use Rattle.fj_runner.specs.Going.{IsGoing}
-use Rattle.fj_runner.specs.Leaving.{Leaves}
-use Rattle.fj_runner.specs.declared.ending.Ending.{Ending as Code}
-use Rattle.fj_runner.specs.declared.machine.Machine.{Machine}
+use Rattle.fj_run_items.specs.Handing.{whole_records}
+use Rattle.fj_run_items.specs.declared.lost.Lost.TheVariants.{Sink, Disk}
+use Rattle.fj_run_units.specs.Files.{files_of}
+use Rattle.fj_run_script.specs.Going.{IsGoing}
+use Rattle.fj_run_script.specs.Leaving.{Leaves}
+use Rattle.fj_run_script.specs.declared.ending.Ending.{Ending as Code}
+use Rattle.fj_run_script.specs.declared.machine.Machine.{Machine}
 use Rattle.fj_job.specs.Carrying.{HasNotBegun, HasRun, LeavesButDeck}
 use Rattle.fj_report.specs.declared.status.Status.{Status}
 use Rattle.fj_report.specs.declared.status.Status.TheVariants.{WriteFault, DiskFault, Memory}

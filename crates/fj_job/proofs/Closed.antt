@@ -34,13 +34,13 @@ use Rattle.fj_statement.specs.declared.statement.Statement.{Statement}
 use Rattle.fj_statement.specs.declared.statement.Statement.TheVariants as statement
 use Rattle.fj_book.specs.Prohibitions.{prohibited}
 use Rattle.fj_value.specs.declared.condition.Rule.{Rule}
-use Rattle.fj_items.specs.Handing.{whole_records}
-use Rattle.fj_plain.specs.Needs.{need, holders}
-use Rattle.fj_plain.specs.Telling.{is_asynchronous, after_tells, waited, condition_of}
-use Rattle.fj_plain.specs.Transfers.{moved_by, spec_of, transferred, unless_refused, on_unit, star_limit, with_printed, printed_to, on_star, transfer_at}
-use Rattle.fj_plain.specs.Connecting.{file_due, keeps_file, with_modes, is_taken, most_units, with_opened, connects, without_old, opens_with, opens, opens_unit, closes, closes_anyway, moves}
-use Rattle.fj_plain.specs.State.{State, Files, Unit, Output, found, disconnected, keeps, start}
-use Rattle.fj_plain.specs.Statement.{Stated, Ending, Ran, begun_in, own, instead, acts, goes_on, step, executed, stated, plain_execution}
+use Rattle.fj_run_items.specs.Handing.{whole_records}
+use Rattle.fj_meaning.specs.Needs.{need, holders}
+use Rattle.fj_meaning.specs.Telling.{is_asynchronous, after_tells, waited, condition_of}
+use Rattle.fj_meaning.specs.Transfers.{moved_by, spec_of, transferred, unless_refused, on_unit, star_limit, with_printed, printed_to, on_star, transfer_at}
+use Rattle.fj_meaning.specs.Connecting.{file_due, keeps_file, with_modes, is_taken, most_units, with_opened, connects, without_old, opens_with, opens, opens_unit, closes, closes_anyway, moves}
+use Rattle.fj_meaning.specs.State.{State, Files, Unit, Output, found, disconnected, keeps, start}
+use Rattle.fj_meaning.specs.Statement.{Stated, Ending, Ran, begun_in, own, instead, acts, goes_on, step, executed, stated, plain_execution}
 
 -- where no record is open, none has characters
 abbrev pub IsClosed : Output → Type 0

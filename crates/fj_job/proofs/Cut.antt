@@ -8,24 +8,24 @@ use Rattle.fj_slot.specs.Serving.{Meaning}
 use Rattle.fj_world.specs.Rack.{Rack}
 use Rattle.fj_bay.specs.Bay.{Bay}
 use Rattle.fj_bay.specs.Jobs.{Job, Answer}
-use Rattle.fj_plain.specs.State.{Files}
-use Rattle.fj_plain.specs.Statement.{Stated, stated, step}
-use Rattle.fj_plain.specs.Telling.{tell_of}
-use Rattle.fj_desk.specs.Core.{Core}
-use Rattle.fj_desk.specs.Desking.{fresh}
-use Rattle.fj_turns.specs.Run.{Run}
-use Rattle.fj_turns.specs.Passing.{turn_output, AsksAt, KnowsAnswers}
-use Rattle.fj_turns.specs.Inside.{waited_at}
-use Rattle.fj_turns.specs.Meant.{IsCutOf}
-use Rattle.fj_turns.proofs.Meant.{cuts_agree}
-use Rattle.fj_pending.specs.Plain.{tells_of}
-use Rattle.fj_items.specs.Handing.{whole_records, HandsOver, HandsFront, HandsPart}
-use Rattle.fj_items.specs.declared.lost.Lost.{Lost}
-use Rattle.fj_acts.specs.Calling.{calls_disk}
-use Rattle.fj_acts.specs.State.{core_of}
-use Rattle.fj_runner.specs.Failing.{FailsCall, FailsAtDisk, HandsThen, CallsDisk}
-use Rattle.fj_runner.specs.Machine.{numbered, rest_of}
-use Rattle.fj_runner.specs.declared.machine.Machine.{Machine}
+use Rattle.fj_meaning.specs.State.{Files}
+use Rattle.fj_meaning.specs.Statement.{Stated, stated, step}
+use Rattle.fj_meaning.specs.Telling.{tell_of}
+use Rattle.fj_meaning_jobs.specs.Core.{Core}
+use Rattle.fj_meaning_jobs.specs.Desking.{fresh}
+use Rattle.fj_meaning_turns.specs.Run.{Run}
+use Rattle.fj_meaning_turns.specs.Passing.{turn_output, AsksAt, KnowsAnswers}
+use Rattle.fj_meaning_turns.specs.Inside.{waited_at}
+use Rattle.fj_meaning_turns.specs.Meant.{IsCutOf}
+use Rattle.fj_meaning_turns.proofs.Meant.{cuts_agree}
+use Rattle.fj_run_pending.specs.Plain.{tells_of}
+use Rattle.fj_run_items.specs.Handing.{whole_records, HandsOver, HandsFront, HandsPart}
+use Rattle.fj_run_items.specs.declared.lost.Lost.{Lost}
+use Rattle.fj_run_statements.specs.Calling.{calls_disk}
+use Rattle.fj_run_statements.specs.State.{core_of}
+use Rattle.fj_run_script.specs.Failing.{FailsCall, FailsAtDisk, HandsThen, CallsDisk}
+use Rattle.fj_run_script.specs.Machine.{numbered, rest_of}
+use Rattle.fj_run_script.specs.declared.machine.Machine.{Machine}
 use Rattle.fj_job.specs.Cut.{Untold, Told, Carried, ComesTo}
 use Rattle.fj_job.specs.Fitting.{kept_name, AreOut}
 use Rattle.fj_job.specs.Cutting.{IsExact, TookFront, TookBegun, IsCut}

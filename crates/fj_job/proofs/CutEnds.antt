@@ -9,17 +9,17 @@ use Rattle.fj_world.specs.Alone.{ServedAlone}
 use Rattle.fj_world.specs.Rack.{Rack}
 use Rattle.fj_bay.specs.Bay.{Bay}
 use Rattle.fj_bay.specs.Jobs.{Job, Answer}
-use Rattle.fj_plain.specs.State.{Files, all_closed}
-use Rattle.fj_plain.specs.Statement.{stated, Ran, Ending, plain_execution}
-use Rattle.fj_turns.specs.Run.{Run}
-use Rattle.fj_turns.specs.Serving.{over_bays, Shows, run_conduct, begins}
-use Rattle.fj_turns.specs.Passing.{EndsAt}
-use Rattle.fj_turns.proofs.Ended.{runs_end}
-use Rattle.fj_pending.specs.Plain.{tells_of}
-use Rattle.fj_items.specs.Handing.{whole_records}
-use Rattle.fj_runner.specs.Machine.{rest_of, run_of, ending_of}
-use Rattle.fj_runner.specs.declared.ending.Ending.{Ending as Code}
-use Rattle.fj_runner.specs.declared.machine.Machine.{Machine}
+use Rattle.fj_meaning.specs.State.{Files, all_closed}
+use Rattle.fj_meaning.specs.Statement.{stated, Ran, Ending, plain_execution}
+use Rattle.fj_meaning_turns.specs.Run.{Run}
+use Rattle.fj_meaning_turns.specs.Serving.{over_bays, Shows, run_conduct, begins}
+use Rattle.fj_meaning_turns.specs.Passing.{EndsAt}
+use Rattle.fj_meaning_turns.proofs.Ended.{runs_end}
+use Rattle.fj_run_pending.specs.Plain.{tells_of}
+use Rattle.fj_run_items.specs.Handing.{whole_records}
+use Rattle.fj_run_script.specs.Machine.{rest_of, run_of, ending_of}
+use Rattle.fj_run_script.specs.declared.ending.Ending.{Ending as Code}
+use Rattle.fj_run_script.specs.declared.machine.Machine.{Machine}
 use Rattle.fj_job.specs.Cut.{Carried, ComesTo}
 use Rattle.fj_job.specs.Cutting.{HoldsFiles, IsExact, EndsHere}
 use Rattle.fj_job.proofs.Cut.{left_behind, shown}

@@ -7,9 +7,9 @@ use Rattle.fj_slot.specs.Serving.{Meaning}
 use Rattle.fj_world.specs.Rack.{Rack}
 use Rattle.fj_bay.specs.Bay.{Bay}
 use Rattle.fj_bay.specs.Jobs.{Job, Answer}
-use Rattle.fj_plain.specs.State.{Files, Output}
-use Rattle.fj_items.specs.Handing.{whole_records}
-use Rattle.fj_runner.specs.declared.machine.Machine.{Machine}
+use Rattle.fj_meaning.specs.State.{Files, Output}
+use Rattle.fj_run_items.specs.Handing.{whole_records}
+use Rattle.fj_run_script.specs.declared.machine.Machine.{Machine}
 use Rattle.fj_job.specs.Cut.{reached, ComesTo}
 use Rattle.fj_job.specs.Cutting.{IsExact, IsOutputSoFar, TookFront}
 use Rattle.fj_job.proofs.CutTexts.{records_front}

@@ -20,42 +20,42 @@ use Rattle.fj_world.specs.Rack.{Rack}
 use Rattle.fj_world.proofs.Places.{slice_get_in}
 use Rattle.fj_bay.specs.Bay.{Bay}
 use Rattle.fj_bay.specs.Jobs.{Job, Answer}
-use Rattle.fj_plain.specs.State.{State, Files, start}
-use Rattle.fj_plain.specs.Statement.{Stated, stated}
-use Rattle.fj_desk.specs.Core.{Core, Connected}
-use Rattle.fj_desk.specs.Desking.{fresh}
-use Rattle.fj_turns.specs.Run.{Run}
-use Rattle.fj_turns.specs.Cutting.{IsCutRun, IsCut as IsCutAt}
-use Rattle.fj_turns.specs.Serving.{over_bays, Shows, run_conduct, desks_of, first_run, fresh_slots, begins}
-use Rattle.fj_turns.proofs.Before.{each_asks}
-use Rattle.fj_turns.proofs.Cutting.{cut_at_stop, world_is_cut}
-use Rattle.fj_turns.proofs.Meant.{cuts_agree}
-use Rattle.fj_looks.specs.Losing.{WasLostIn}
-use Rattle.fj_cut.specs.Others.{Names, names_of, names_in, file_opened}
-use Rattle.fj_cut.specs.Stopping.{WereGiven}
-use Rattle.fj_cut.specs.Turning.{IsUnbegun, TurnLeavesOthers, SubmitLeavesOthers}
-use Rattle.fj_cut.proofs.Awaited.{stops_are_awaited}
-use Rattle.fj_cut.proofs.Stops.{stops_leave_others}
-use Rattle.fj_cut.proofs.Turns.{each_turn, each_submit}
-use Rattle.fj_cut.proofs.Given.{within_deck, each_stop_given, each_turn_given}
-use Rattle.fj_items.specs.Handing.{whole_records}
-use Rattle.fj_items.specs.declared.lost.Lost.{Lost}
-use Rattle.fj_items.specs.declared.lost.Lost.TheVariants.{Unfit}
-use Rattle.fj_closing.specs.Ended.{HasStoppedAt, StopsFull, TurnHolds}
-use Rattle.fj_closing.proofs.Ended.{each_stop_holds, each_stop_spares, each_turn_holds, each_submit_holds}
-use Rattle.fj_acts.specs.State.{core_of}
-use Rattle.fj_units.specs.Files.{files_of}
-use Rattle.fj_runner.specs.Kept.{HaveKept, KeepsFiles}
-use Rattle.fj_runner.specs.Failing.{StandsStill, StandsAt, FailsCall, IsGivenUp, FailsAsking, Stays, HasReason, IsLoss}
-use Rattle.fj_runner.specs.Going.{HaveAt}
-use Rattle.fj_runner.specs.Leaving.{Leaves}
-use Rattle.fj_runner.specs.Machine.{rest_of, run_of}
-use Rattle.fj_runner.specs.Tallying.{due_of}
-use Rattle.fj_runner.specs.declared.hand.Hand.{Hand}
-use Rattle.fj_runner.specs.declared.hand.Hand.TheVariants.{Idle, Submitting, Settling}
-use Rattle.fj_runner.specs.declared.machine.Machine.{Machine}
-use Rattle.fj_runner.proofs.AtHand.{rest_same}
-use Rattle.fj_runner.proofs.GivingUp.{passes_both}
+use Rattle.fj_meaning.specs.State.{State, Files, start}
+use Rattle.fj_meaning.specs.Statement.{Stated, stated}
+use Rattle.fj_meaning_jobs.specs.Core.{Core, Connected}
+use Rattle.fj_meaning_jobs.specs.Desking.{fresh}
+use Rattle.fj_meaning_turns.specs.Run.{Run}
+use Rattle.fj_meaning_turns.specs.Cutting.{IsCutRun, IsCut as IsCutAt}
+use Rattle.fj_meaning_turns.specs.Serving.{over_bays, Shows, run_conduct, desks_of, first_run, fresh_slots, begins}
+use Rattle.fj_meaning_turns.proofs.Before.{each_asks}
+use Rattle.fj_meaning_turns.proofs.Cutting.{cut_at_stop, world_is_cut}
+use Rattle.fj_meaning_turns.proofs.Meant.{cuts_agree}
+use Rattle.fj_meaning_looks.specs.Losing.{WasLostIn}
+use Rattle.fj_meaning_cut.specs.Others.{Names, names_of, names_in, file_opened}
+use Rattle.fj_meaning_cut.specs.Stopping.{WereGiven}
+use Rattle.fj_meaning_cut.specs.Turning.{IsUnbegun, TurnLeavesOthers, SubmitLeavesOthers}
+use Rattle.fj_meaning_cut.proofs.Awaited.{stops_are_awaited}
+use Rattle.fj_meaning_cut.proofs.Stops.{stops_leave_others}
+use Rattle.fj_meaning_cut.proofs.Turns.{each_turn, each_submit}
+use Rattle.fj_meaning_cut.proofs.Given.{within_deck, each_stop_given, each_turn_given}
+use Rattle.fj_run_items.specs.Handing.{whole_records}
+use Rattle.fj_run_items.specs.declared.lost.Lost.{Lost}
+use Rattle.fj_run_items.specs.declared.lost.Lost.TheVariants.{Unfit}
+use Rattle.fj_run_end.specs.Ended.{HasStoppedAt, StopsFull, TurnHolds}
+use Rattle.fj_run_end.proofs.Ended.{each_stop_holds, each_stop_spares, each_turn_holds, each_submit_holds}
+use Rattle.fj_run_statements.specs.State.{core_of}
+use Rattle.fj_run_units.specs.Files.{files_of}
+use Rattle.fj_run_script.specs.Kept.{HaveKept, KeepsFiles}
+use Rattle.fj_run_script.specs.Failing.{StandsStill, StandsAt, FailsCall, IsGivenUp, FailsAsking, Stays, HasReason, IsLoss}
+use Rattle.fj_run_script.specs.Going.{HaveAt}
+use Rattle.fj_run_script.specs.Leaving.{Leaves}
+use Rattle.fj_run_script.specs.Machine.{rest_of, run_of}
+use Rattle.fj_run_script.specs.Tallying.{due_of}
+use Rattle.fj_run_script.specs.declared.hand.Hand.{Hand}
+use Rattle.fj_run_script.specs.declared.hand.Hand.TheVariants.{Idle, Submitting, Settling}
+use Rattle.fj_run_script.specs.declared.machine.Machine.{Machine}
+use Rattle.fj_run_script.proofs.AtHand.{rest_same}
+use Rattle.fj_run_script.proofs.GivingUp.{passes_both}
 use Rattle.fj_job.specs.Carrying.{HasNotBegun, LeavesButDeck}
 use Rattle.fj_job.specs.Cutting.{IsCut}
 use Rattle.fj_job.specs.Fitting.{kept_name, AreOut}

@@ -3,10 +3,10 @@ use Rattle.std.proofs.Common.{◌≡◌, ℕ, zero, suc, ◌-◌, List, [], ◌�
 use Rattle.fj_statement.specs.declared.deck.Variable.{Variable}
 use Rattle.fj_statement.specs.declared.deck.Lined.{Lined}
 use Rattle.fj_statement.specs.declared.deck.Deck.{Deck}
-use Rattle.fj_plain.specs.State.{State, Files, Output, start}
-use Rattle.fj_plain.specs.Statement.{Stated, Ran, begun_in, stated, control_by, step, executed, Ending, cut, plain_execution}
-use Rattle.fj_items.specs.Handing.{whole_records, open_record}
-use Rattle.fj_turns.proofs.Slots.{same_some}
+use Rattle.fj_meaning.specs.State.{State, Files, Output, start}
+use Rattle.fj_meaning.specs.Statement.{Stated, Ran, begun_in, stated, control_by, step, executed, Ending, cut, plain_execution}
+use Rattle.fj_run_items.specs.Handing.{whole_records, open_record}
+use Rattle.fj_meaning_turns.proofs.Slots.{same_some}
 use Rattle.fj_job.specs.Cut.{Reach, Untold, Told, Carried, reached, ComesTo, BeginsAt}
 use Rattle.fj_job.specs.Reply.{open_feed}
 use Rattle.fj_job.proofs.Closed.{IsClosed, Follows, follows_same, follows_on, step_follows, executed_follows}

@@ -12,29 +12,29 @@ use Rattle.fj_slot.specs.Serving.{Meaning}
 use Rattle.fj_store.specs.Storage.{values_of}
 use Rattle.fj_bay.specs.Bay.{Bay}
 use Rattle.fj_bay.specs.Jobs.{Job, Answer}
-use Rattle.fj_plain.specs.State.{Files, Output, Unit}
-use Rattle.fj_plain.specs.Statement.{Result, Ending, ended, error_stop, prohibition, plain_execution, stated}
-use Rattle.fj_desk.specs.Both.{Both}
-use Rattle.fj_desk.specs.Core.{Core, Connected}
-use Rattle.fj_desk.specs.Desks.{Desk}
-use Rattle.fj_desk.specs.Desking.{all_left}
-use Rattle.fj_desk.specs.Forgetting.{IsSeen, bay_at}
+use Rattle.fj_meaning.specs.State.{Files, Output, Unit}
+use Rattle.fj_meaning.specs.Statement.{Result, Ending, ended, error_stop, prohibition, plain_execution, stated}
+use Rattle.fj_meaning_jobs.specs.Both.{Both}
+use Rattle.fj_meaning_jobs.specs.Core.{Core, Connected}
+use Rattle.fj_meaning_jobs.specs.Desks.{Desk}
+use Rattle.fj_meaning_jobs.specs.Desking.{all_left}
+use Rattle.fj_meaning_jobs.specs.Forgetting.{IsSeen, bay_at}
 use Rattle.fj_world.specs.Rack.{Rack}
-use Rattle.fj_turns.specs.Executing.{HoldsDesks}
-use Rattle.fj_cut.specs.Stopping.{HoldsGiven}
-use Rattle.fj_turns.specs.Run.{Run, Stage}
-use Rattle.fj_turns.specs.Serving.{first_run}
-use Rattle.fj_items.specs.Handing.{HandsOver, whole_records, open_record}
-use Rattle.fj_pending.specs.Plain.{tells_of}
-use Rattle.fj_acts.specs.State.{core_of}
-use Rattle.fj_acts.specs.declared.state.Core.{Core as Kept}
-use Rattle.fj_closing.specs.Closing.{AreSeated, AreNamed}
-use Rattle.fj_closing.proofs.Returning.{named}
+use Rattle.fj_meaning_turns.specs.Executing.{HoldsDesks}
+use Rattle.fj_meaning_cut.specs.Stopping.{HoldsGiven}
+use Rattle.fj_meaning_turns.specs.Run.{Run, Stage}
+use Rattle.fj_meaning_turns.specs.Serving.{first_run}
+use Rattle.fj_run_items.specs.Handing.{HandsOver, whole_records, open_record}
+use Rattle.fj_run_pending.specs.Plain.{tells_of}
+use Rattle.fj_run_statements.specs.State.{core_of}
+use Rattle.fj_run_statements.specs.declared.state.Core.{Core as Kept}
+use Rattle.fj_run_end.specs.Closing.{AreSeated, AreNamed}
+use Rattle.fj_run_end.proofs.Returning.{named}
 use Rattle.fj_report.specs.declared.status.Status.{Status}
-use Rattle.fj_runner.specs.Machine.{rest_of, run_of, run_at, stage_at, ending_of}
-use Rattle.fj_runner.specs.declared.ending.Ending.{Ending as Code}
-use Rattle.fj_runner.specs.declared.left.Left.{Left}
-use Rattle.fj_runner.specs.declared.machine.Machine.{Machine}
+use Rattle.fj_run_script.specs.Machine.{rest_of, run_of, run_at, stage_at, ending_of}
+use Rattle.fj_run_script.specs.declared.ending.Ending.{Ending as Code}
+use Rattle.fj_run_script.specs.declared.left.Left.{Left}
+use Rattle.fj_run_script.specs.declared.machine.Machine.{Machine}
 use Rattle.fj_job.specs.Carrying.{HasRun, HasNotBegun}
 use Rattle.fj_job.proofs.Closed.{IsClosed, outputs_are_closed}
 use Rattle.fj_job.proofs.Leaving.{one_index}

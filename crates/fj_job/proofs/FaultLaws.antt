@@ -5,13 +5,13 @@ use Rattle.fj_statement.specs.declared.deck.Variable.{Variable}
 use Rattle.fj_statement.specs.declared.deck.Lined.{Lined}
 use Rattle.fj_statement.specs.declared.deck.Deck.{Deck}
 use Rattle.fj_deck.specs.Deck.{DecksAreSound}
-use Rattle.fj_plain.specs.State.{State, Files, start}
-use Rattle.fj_plain.specs.Statement.{Stated, begun_in, stated, step, Ending, cut}
-use Rattle.fj_items.specs.Handing.{whole_records}
+use Rattle.fj_meaning.specs.State.{State, Files, start}
+use Rattle.fj_meaning.specs.Statement.{Stated, begun_in, stated, step, Ending, cut}
+use Rattle.fj_run_items.specs.Handing.{whole_records}
 use Rattle.fj_job.specs.Cut.{Reach, Untold, Told, Carried, reached, MayReach, ComesTo, IsNext, TookBehind}
 use Rattle.fj_job.specs.Faulting.{LinesNameStatements, TookThrough, WriteFaultsAreFirst, OneWriteFault}
 use Rattle.fj_job.specs.Reply.{Lines}
-use Rattle.fj_turns.proofs.Slots.{same_some}
+use Rattle.fj_meaning_turns.proofs.Slots.{same_some}
 use Rattle.fj_job.proofs.Closed.{Follows, follows_on, records_follow}
 use Rattle.fj_job.proofs.CutTexts.{cut_by, cut_follows, reached_follows, at_hand}
 

@@ -9,7 +9,7 @@ use Rattle.fj_bay.specs.Jobs.{Job, Answer}
 use Rattle.fj_world.specs.Fits.{SlotsFit, SlotFits}
 use Rattle.fj_world.specs.Plain.{PlainSlot}
 use Rattle.fj_world.specs.Rack.{Rack}
-use Rattle.fj_turns.specs.Serving.{fresh_slots}
+use Rattle.fj_meaning_turns.specs.Serving.{fresh_slots}
 use Rattle.fj_job.specs.Carrying.{IsFresh, AreFresh}
 
 all_at : {X : Type 0} (P : X → Type 0) (xs : List X) → All P xs → (i : ℕ) (x : X) → slice_get xs i ≡ Some x → P x

@@ -13,10 +13,10 @@ use Rattle.fj_statement.specs.declared.deck.Variable.{Variable}
 use Rattle.fj_statement.specs.declared.deck.Lined.{Lined}
 use Rattle.fj_statement.specs.declared.deck.Deck.{Deck}
 use Rattle.fj_book.specs.Prohibitions.{prohibited}
-use Rattle.fj_plain.specs.Needs.{need, holders}
-use Rattle.fj_plain.specs.State.{State, Files, start}
-use Rattle.fj_plain.specs.Statement.{Stated, Ran, Ending, begun_in, ends, goes_on, step, executed, stated, control_by, plain_execution}
-use Rattle.fj_items.specs.Handing.{TakesFront, TakesPart}
+use Rattle.fj_meaning.specs.Needs.{need, holders}
+use Rattle.fj_meaning.specs.State.{State, Files, start}
+use Rattle.fj_meaning.specs.Statement.{Stated, Ran, Ending, begun_in, ends, goes_on, step, executed, stated, control_by, plain_execution}
+use Rattle.fj_run_items.specs.Handing.{TakesFront, TakesPart}
 use Rattle.fj_report.specs.declared.status.Status.{Status}
 use Rattle.fj_report.specs.declared.status.Status.TheVariants.{Ended, ErrorStop, Prohibited, DeckRefused, Usage, ReadFault, WriteFault, DiskFault, Memory}
 use Rattle.fj_job.specs.Answers.{IsLost, IfFault, IfMemory, IfWriteFault, TookFor, TookRefusal}

@@ -14,17 +14,17 @@ use Rattle.fj_world.specs.Rack.{Rack}
 use Rattle.fj_world.proofs.Places.{slice_get_in}
 use Rattle.fj_bay.specs.Bay.{Bay}
 use Rattle.fj_bay.specs.Jobs.{Job, Answer}
-use Rattle.fj_plain.specs.State.{Files}
-use Rattle.fj_plain.specs.Statement.{Stated}
-use Rattle.fj_desk.specs.Core.{Connected, has_name}
-use Rattle.fj_desk.specs.Desks.{Desk}
-use Rattle.fj_desk.specs.Desking.{all_left, connection_at, left_by}
-use Rattle.fj_turns.specs.Run.{Run}
-use Rattle.fj_turns.specs.Serving.{over_bays}
-use Rattle.fj_cut.specs.Others.{AreHoused, has_file}
-use Rattle.fj_cut.specs.Stopping.{WereGiven, HoldsGiven, IsLeftShort}
-use Rattle.fj_closing.specs.Finding.{IsLeftBehind, OfEach}
-use Rattle.fj_closing.proofs.Due.{left_elsewhere}
+use Rattle.fj_meaning.specs.State.{Files}
+use Rattle.fj_meaning.specs.Statement.{Stated}
+use Rattle.fj_meaning_jobs.specs.Core.{Connected, has_name}
+use Rattle.fj_meaning_jobs.specs.Desks.{Desk}
+use Rattle.fj_meaning_jobs.specs.Desking.{all_left, connection_at, left_by}
+use Rattle.fj_meaning_turns.specs.Run.{Run}
+use Rattle.fj_meaning_turns.specs.Serving.{over_bays}
+use Rattle.fj_meaning_cut.specs.Others.{AreHoused, has_file}
+use Rattle.fj_meaning_cut.specs.Stopping.{WereGiven, HoldsGiven, IsLeftShort}
+use Rattle.fj_run_end.specs.Finding.{IsLeftBehind, OfEach}
+use Rattle.fj_run_end.proofs.Due.{left_elsewhere}
 use Rattle.fj_job.specs.Cutting.{IsServed}
 use Rattle.fj_job.proofs.Leaving.{one_index}
 

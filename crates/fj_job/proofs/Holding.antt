@@ -9,28 +9,28 @@ use Rattle.fj_slot.specs.Serving.{Meaning}
 use Rattle.fj_world.specs.Rack.{Rack}
 use Rattle.fj_bay.specs.Bay.{Bay}
 use Rattle.fj_bay.specs.Jobs.{Job, Answer}
-use Rattle.fj_plain.specs.State.{State, Files, all_closed, start}
-use Rattle.fj_plain.specs.Statement.{Stated, stated, cut}
-use Rattle.fj_desk.specs.Core.{Core, Connected, has_name}
-use Rattle.fj_desk.specs.Desks.{Desk}
-use Rattle.fj_desk.specs.Desking.{all_left}
-use Rattle.fj_turns.specs.Run.{Run}
-use Rattle.fj_turns.specs.Cutting.{IsCutRun}
-use Rattle.fj_turns.specs.Executing.{HoldsDesks}
-use Rattle.fj_turns.specs.Serving.{Shows}
-use Rattle.fj_cut.specs.Others.{names_in, file_about, file_opened, has_file, core_now, AreHoused, LeavesOthers, file_renewed}
-use Rattle.fj_cut.specs.Awaiting.{IsFree, StopsAt}
-use Rattle.fj_cut.specs.Stopping.{HoldsGiven}
-use Rattle.fj_cut.specs.Turning.{IsUnbegun, SubmitLeavesOthers, TurnLeavesOthers}
-use Rattle.fj_cut.proofs.Connecting.{opened_about}
-use Rattle.fj_acts.specs.State.{core_of, core_at}
-use Rattle.fj_units.specs.Files.{files_of}
-use Rattle.fj_units.specs.Returning.{IsAsDue}
-use Rattle.fj_closing.specs.Ended.{TurnHolds}
-use Rattle.fj_closing.specs.Holding.{HoldUnits}
-use Rattle.fj_closing.proofs.Due.{all_due}
-use Rattle.fj_runner.specs.Failing.{StandsAt, StandsStill}
-use Rattle.fj_runner.specs.declared.machine.Machine.{Machine}
+use Rattle.fj_meaning.specs.State.{State, Files, all_closed, start}
+use Rattle.fj_meaning.specs.Statement.{Stated, stated, cut}
+use Rattle.fj_meaning_jobs.specs.Core.{Core, Connected, has_name}
+use Rattle.fj_meaning_jobs.specs.Desks.{Desk}
+use Rattle.fj_meaning_jobs.specs.Desking.{all_left}
+use Rattle.fj_meaning_turns.specs.Run.{Run}
+use Rattle.fj_meaning_turns.specs.Cutting.{IsCutRun}
+use Rattle.fj_meaning_turns.specs.Executing.{HoldsDesks}
+use Rattle.fj_meaning_turns.specs.Serving.{Shows}
+use Rattle.fj_meaning_cut.specs.Others.{names_in, file_about, file_opened, has_file, core_now, AreHoused, LeavesOthers, file_renewed}
+use Rattle.fj_meaning_cut.specs.Awaiting.{IsFree, StopsAt}
+use Rattle.fj_meaning_cut.specs.Stopping.{HoldsGiven}
+use Rattle.fj_meaning_cut.specs.Turning.{IsUnbegun, SubmitLeavesOthers, TurnLeavesOthers}
+use Rattle.fj_meaning_cut.proofs.Connecting.{opened_about}
+use Rattle.fj_run_statements.specs.State.{core_of, core_at}
+use Rattle.fj_run_units.specs.Files.{files_of}
+use Rattle.fj_run_units.specs.Returning.{IsAsDue}
+use Rattle.fj_run_end.specs.Ended.{TurnHolds}
+use Rattle.fj_run_end.specs.Holding.{HoldUnits}
+use Rattle.fj_run_end.proofs.Due.{all_due}
+use Rattle.fj_run_script.specs.Failing.{StandsAt, StandsStill}
+use Rattle.fj_run_script.specs.declared.machine.Machine.{Machine}
 use Rattle.fj_job.specs.Cut.{Untold, Told, ComesTo}
 use Rattle.fj_job.specs.Cutting.{IsServed, HoldsFiles, StopsAside, IsCause}
 use Rattle.fj_job.proofs.Leaving.{not_at, due_wider, core_same, next_named, told_files, one_place, within, one_index}

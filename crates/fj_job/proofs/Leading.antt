@@ -3,14 +3,14 @@ use Rattle.std.proofs.Common.{◌≡◌, ◌⊎◌, inl, inr, ℕ, zero, suc, �
 use Rattle.std.proofs.lemmas.List.{append-nil}
 use Rattle.fj_outside.specs.Faults.{Rose}
 use Rattle.fj_outside.specs.declared.outside.FileStore.{Ghosts}
-use Rattle.fj_items.specs.Handing.{HandsOver, whole_records}
-use Rattle.fj_items.specs.declared.lost.Lost.{Lost}
-use Rattle.fj_items.specs.declared.lost.Lost.TheVariants.{Disk}
-use Rattle.fj_plain.specs.State.{Output}
+use Rattle.fj_run_items.specs.Handing.{HandsOver, whole_records}
+use Rattle.fj_run_items.specs.declared.lost.Lost.{Lost}
+use Rattle.fj_run_items.specs.declared.lost.Lost.TheVariants.{Disk}
+use Rattle.fj_meaning.specs.State.{Output}
 use Rattle.fj_world.specs.Leading.{Led, LeadsTo}
-use Rattle.fj_runner.specs.Leaving.{Leaves}
-use Rattle.fj_runner.specs.Taking.{TakesMore}
-use Rattle.fj_runner.specs.declared.machine.Machine.{Machine}
+use Rattle.fj_run_script.specs.Leaving.{Leaves}
+use Rattle.fj_run_script.specs.Taking.{TakesMore}
+use Rattle.fj_run_script.specs.declared.machine.Machine.{Machine}
 use Rattle.fj_job.specs.Carrying.{LeavesButDeck}
 
 -- ---- a relation that composes

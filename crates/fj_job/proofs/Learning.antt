@@ -11,24 +11,24 @@ use Rattle.fj_world.specs.Losing.{given_number, given_reply, given_outcome, answ
 use Rattle.fj_world.specs.Plain.{Plain, PlainSlot, after}
 use Rattle.fj_bay.specs.Bay.{Bay}
 use Rattle.fj_bay.specs.Jobs.{Job, Answer}
-use Rattle.fj_plain.specs.State.{Files}
-use Rattle.fj_plain.specs.Statement.{Stated, Ending, ends}
-use Rattle.fj_plain.specs.Telling.{tell_of}
-use Rattle.fj_desk.specs.Doing.{Doing, finishes, gives, awaits, Desked}
-use Rattle.fj_desk.specs.Desking.{desk_step, fresh}
-use Rattle.fj_turns.specs.Run.{Run, Stage, Start, Waiting, Acting, Awaiting}
-use Rattle.fj_turns.specs.Turns.{Turn, Pauses, Passes, Stops, Asked, finish_by, turn_act, with_core, with_iostat, doing_told, with_tells, wait_by, waited_now, unsettled, start_by, rule_of, begun_for, hand_at, with_hand, turn, turn_start, goes, by_turn, asked_on, asked, told_of}
-use Rattle.fj_turns.specs.Serving.{over_bays, Shows, run_conduct, first_run, fresh_slots, begins}
-use Rattle.fj_turns.specs.Inside.{waited_at, cut_desks}
-use Rattle.fj_turns.specs.Passing.{passed_by, passed_on, passes, output_of, output_due, turn_output, knows_at, known_due, KnowsAnswers, told_at, tells_due, turn_tells}
-use Rattle.fj_turns.proofs.Decks.{cut_here}
-use Rattle.fj_turns.proofs.Slots.{same_some}
-use Rattle.fj_turns.proofs.Passed.{At, long_at, stands_at, tells_at, output_at, Led, asked_leads}
-use Rattle.fj_turns.proofs.Before.{fares_after}
-use Rattle.fj_acts.specs.Calling.{calls_disk}
-use Rattle.fj_cut.specs.Stopping.{WereGiven}
-use Rattle.fj_cut.proofs.Given.{each_turn_given, within_deck}
-use Rattle.fj_runner.proofs.AtHand.{calls_hand}
+use Rattle.fj_meaning.specs.State.{Files}
+use Rattle.fj_meaning.specs.Statement.{Stated, Ending, ends}
+use Rattle.fj_meaning.specs.Telling.{tell_of}
+use Rattle.fj_meaning_jobs.specs.Doing.{Doing, finishes, gives, awaits, Desked}
+use Rattle.fj_meaning_jobs.specs.Desking.{desk_step, fresh}
+use Rattle.fj_meaning_turns.specs.Run.{Run, Stage, Start, Waiting, Acting, Awaiting}
+use Rattle.fj_meaning_turns.specs.Turns.{Turn, Pauses, Passes, Stops, Asked, finish_by, turn_act, with_core, with_iostat, doing_told, with_tells, wait_by, waited_now, unsettled, start_by, rule_of, begun_for, hand_at, with_hand, turn, turn_start, goes, by_turn, asked_on, asked, told_of}
+use Rattle.fj_meaning_turns.specs.Serving.{over_bays, Shows, run_conduct, first_run, fresh_slots, begins}
+use Rattle.fj_meaning_turns.specs.Inside.{waited_at, cut_desks}
+use Rattle.fj_meaning_turns.specs.Passing.{passed_by, passed_on, passes, output_of, output_due, turn_output, knows_at, known_due, KnowsAnswers, told_at, tells_due, turn_tells}
+use Rattle.fj_meaning_turns.proofs.Decks.{cut_here}
+use Rattle.fj_meaning_turns.proofs.Slots.{same_some}
+use Rattle.fj_meaning_turns.proofs.Passed.{At, long_at, stands_at, tells_at, output_at, Led, asked_leads}
+use Rattle.fj_meaning_turns.proofs.Before.{fares_after}
+use Rattle.fj_run_statements.specs.Calling.{calls_disk}
+use Rattle.fj_meaning_cut.specs.Stopping.{WereGiven}
+use Rattle.fj_meaning_cut.proofs.Given.{each_turn_given, within_deck}
+use Rattle.fj_run_script.proofs.AtHand.{calls_hand}
 use Rattle.fj_job.proofs.Leaving.{same_index}
 use Rattle.fj_job.proofs.Pausing.{asked_pauses}
 use Rattle.fj_job.proofs.Passes.{IsPassed, EndsSo, passed_is, passes_on}

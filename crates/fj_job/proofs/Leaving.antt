@@ -16,20 +16,20 @@ use Rattle.fj_world.specs.Plain.{PlainSlot}
 use Rattle.fj_world.specs.Rack.{Rack}
 use Rattle.fj_bay.specs.Bay.{Bay}
 use Rattle.fj_bay.specs.Jobs.{Job, Answer, attach, detach, move, go, change, flush, look, resume}
-use Rattle.fj_plain.specs.State.{State, Files, Unit, files_closed, keeps, left, all_closed}
-use Rattle.fj_plain.specs.Statement.{Stated, Ending, begun_in, step, cut}
-use Rattle.fj_plain.specs.Telling.{waited, ends_halt}
-use Rattle.fj_desk.specs.Core.{Connected}
-use Rattle.fj_desk.specs.Desks.{Desk, Outcome}
-use Rattle.fj_desk.specs.Doing.{Doing, finishes, gives, awaits}
-use Rattle.fj_turns.specs.Executing.{HoldsDesks}
-use Rattle.fj_turns.specs.Serving.{over_bays, desks_of}
-use Rattle.fj_turns.proofs.Finishing.{desk_from}
-use Rattle.fj_cut.specs.Others.{has_file, core_now, AreHoused}
-use Rattle.fj_acts.specs.Failing.{connected_next}
-use Rattle.fj_acts.specs.State.{core_at}
-use Rattle.fj_units.specs.Returning.{IsAsDue}
-use Rattle.fj_closing.specs.Closing.{AreSeated, AreNamed, IfClear}
+use Rattle.fj_meaning.specs.State.{State, Files, Unit, files_closed, keeps, left, all_closed}
+use Rattle.fj_meaning.specs.Statement.{Stated, Ending, begun_in, step, cut}
+use Rattle.fj_meaning.specs.Telling.{waited, ends_halt}
+use Rattle.fj_meaning_jobs.specs.Core.{Connected}
+use Rattle.fj_meaning_jobs.specs.Desks.{Desk, Outcome}
+use Rattle.fj_meaning_jobs.specs.Doing.{Doing, finishes, gives, awaits}
+use Rattle.fj_meaning_turns.specs.Executing.{HoldsDesks}
+use Rattle.fj_meaning_turns.specs.Serving.{over_bays, desks_of}
+use Rattle.fj_meaning_turns.proofs.Finishing.{desk_from}
+use Rattle.fj_meaning_cut.specs.Others.{has_file, core_now, AreHoused}
+use Rattle.fj_run_statements.specs.Failing.{connected_next}
+use Rattle.fj_run_statements.specs.State.{core_at}
+use Rattle.fj_run_units.specs.Returning.{IsAsDue}
+use Rattle.fj_run_end.specs.Closing.{AreSeated, AreNamed, IfClear}
 use Rattle.fj_job.specs.Cut.{Told, reached}
 use Rattle.fj_job.specs.Cutting.{IsServed}
 

@@ -15,16 +15,16 @@ use Rattle.fj_slot.specs.Serving.{Meaning}
 use Rattle.fj_world.specs.Plain.{PlainSlot}
 use Rattle.fj_bay.specs.Bay.{Bay}
 use Rattle.fj_bay.specs.Jobs.{Job, Answer}
-use Rattle.fj_plain.specs.State.{Entry}
-use Rattle.fj_plain.specs.Statement.{Stated, stated, control_by, Ending, ends}
-use Rattle.fj_desk.specs.Doing.{Doing, finishes, gives, awaits, Desked}
-use Rattle.fj_desk.specs.Desking.{begun_at, desk_step}
-use Rattle.fj_turns.specs.Run.{Run, Stage, Start, Waiting, Acting, Awaiting}
-use Rattle.fj_turns.specs.Turns.{Turn, Pauses, Passes, Stops, finish_by, turn_act, with_core, with_iostat, doing_told, with_tells, wait_by, waited_now, unsettled, start_by, rule_of, begun_for, hand_at, with_hand, turn}
-use Rattle.fj_turns.specs.Inside.{cut_desks}
-use Rattle.fj_turns.specs.Passing.{passed_by, passed_on, passes}
-use Rattle.fj_turns.proofs.Slots.{same_some}
-use Rattle.fj_turns.proofs.Passed.{At, passes_stand}
+use Rattle.fj_meaning.specs.State.{Entry}
+use Rattle.fj_meaning.specs.Statement.{Stated, stated, control_by, Ending, ends}
+use Rattle.fj_meaning_jobs.specs.Doing.{Doing, finishes, gives, awaits, Desked}
+use Rattle.fj_meaning_jobs.specs.Desking.{begun_at, desk_step}
+use Rattle.fj_meaning_turns.specs.Run.{Run, Stage, Start, Waiting, Acting, Awaiting}
+use Rattle.fj_meaning_turns.specs.Turns.{Turn, Pauses, Passes, Stops, finish_by, turn_act, with_core, with_iostat, doing_told, with_tells, wait_by, waited_now, unsettled, start_by, rule_of, begun_for, hand_at, with_hand, turn}
+use Rattle.fj_meaning_turns.specs.Inside.{cut_desks}
+use Rattle.fj_meaning_turns.specs.Passing.{passed_by, passed_on, passes}
+use Rattle.fj_meaning_turns.proofs.Slots.{same_some}
+use Rattle.fj_meaning_turns.proofs.Passed.{At, passes_stand}
 
 -- ---- END is not passed
 

@@ -3,14 +3,14 @@ use Rattle.std.proofs.Common.{◌≡◌, ◌≢◌, ℕ, ◌+◌, Bool, true, fa
 use Rattle.std.specs.Prelude.{if◌then◌else◌}
 use Rattle.fj_value.specs.declared.condition.Rule.{Rule}
 use Rattle.fj_world.specs.declared.ask.Ask.TheVariants.{Finished}
-use Rattle.fj_plain.specs.State.{Entry}
-use Rattle.fj_plain.specs.Statement.{Stated, Ending, ends, prohibition}
-use Rattle.fj_desk.specs.Doing.{Doing, finishes, gives, awaits}
-use Rattle.fj_turns.specs.Run.{Run, Stage, Start, Waiting, Acting, Awaiting}
-use Rattle.fj_turns.specs.Turns.{Turn, Pauses, Passes, Stops, Asked, finish_by, with_core, with_iostat, turn_act, with_tells, doing_told, wait_by, waited_now, unsettled, start_by, rule_of, begun_for, with_hand, turn_start, turn, goes, by_turn, asked_on, asked}
-use Rattle.fj_turns.specs.Passing.{passed_by, passed_on, passes}
-use Rattle.fj_runner.proofs.GivingUp.{passes_both, passes_one}
-use Rattle.fj_turns.proofs.Decks.{goes_is_turn}
+use Rattle.fj_meaning.specs.State.{Entry}
+use Rattle.fj_meaning.specs.Statement.{Stated, Ending, ends, prohibition}
+use Rattle.fj_meaning_jobs.specs.Doing.{Doing, finishes, gives, awaits}
+use Rattle.fj_meaning_turns.specs.Run.{Run, Stage, Start, Waiting, Acting, Awaiting}
+use Rattle.fj_meaning_turns.specs.Turns.{Turn, Pauses, Passes, Stops, Asked, finish_by, with_core, with_iostat, turn_act, with_tells, doing_told, wait_by, waited_now, unsettled, start_by, rule_of, begun_for, with_hand, turn_start, turn, goes, by_turn, asked_on, asked}
+use Rattle.fj_meaning_turns.specs.Passing.{passed_by, passed_on, passes}
+use Rattle.fj_run_script.proofs.GivingUp.{passes_both, passes_one}
+use Rattle.fj_meaning_turns.proofs.Decks.{goes_is_turn}
 
 -- as many statements are left, and it passes at the start of a statement
 abbrev KeepsRest : ℕ → Turn → Type 0

@@ -14,27 +14,27 @@ use Rattle.fj_slot.specs.Serving.{Meaning}
 use Rattle.fj_bay.specs.Bay.{Bay}
 use Rattle.fj_bay.specs.Jobs.{Job, Answer}
 use Rattle.fj_world.specs.Rack.{Rack}
-use Rattle.fj_plain.specs.State.{State, Files, Output, Tell, all_closed, start}
-use Rattle.fj_plain.specs.Statement.{Stated, plain_execution, step, stated}
-use Rattle.fj_desk.specs.Core.{has_name}
-use Rattle.fj_cut.specs.Others.{Names, names_in, file_opened, file_about, file_renewed, AreHoused}
-use Rattle.fj_cut.proofs.Connecting.{opened_about}
-use Rattle.fj_pending.specs.Plain.{tells_of}
-use Rattle.fj_items.specs.Handing.{TakesFront, TakesPart, whole_records, open_record}
-use Rattle.fj_items.specs.declared.lost.Lost.{Lost}
-use Rattle.fj_items.specs.declared.lost.Lost.TheVariants.{Sink, Disk}
-use Rattle.fj_units.specs.Files.{files_of}
-use Rattle.fj_units.specs.Returning.{IsAsDue}
-use Rattle.fj_closing.proofs.Due.{due_on}
-use Rattle.fj_closing.proofs.Finding.{rose_wider}
+use Rattle.fj_meaning.specs.State.{State, Files, Output, Tell, all_closed, start}
+use Rattle.fj_meaning.specs.Statement.{Stated, plain_execution, step, stated}
+use Rattle.fj_meaning_jobs.specs.Core.{has_name}
+use Rattle.fj_meaning_cut.specs.Others.{Names, names_in, file_opened, file_about, file_renewed, AreHoused}
+use Rattle.fj_meaning_cut.proofs.Connecting.{opened_about}
+use Rattle.fj_run_pending.specs.Plain.{tells_of}
+use Rattle.fj_run_items.specs.Handing.{TakesFront, TakesPart, whole_records, open_record}
+use Rattle.fj_run_items.specs.declared.lost.Lost.{Lost}
+use Rattle.fj_run_items.specs.declared.lost.Lost.TheVariants.{Sink, Disk}
+use Rattle.fj_run_units.specs.Files.{files_of}
+use Rattle.fj_run_units.specs.Returning.{IsAsDue}
+use Rattle.fj_run_end.proofs.Due.{due_on}
+use Rattle.fj_run_end.proofs.Finding.{rose_wider}
 use Rattle.fj_report.specs.Lines.{status_text}
 use Rattle.fj_report.specs.declared.status.Status.{Status}
 use Rattle.fj_report.specs.declared.status.Status.TheVariants.{DiskFault}
-use Rattle.fj_runner.specs.Machine.{ending_of}
-use Rattle.fj_runner.specs.declared.ending.Ending.{Ending as Code}
-use Rattle.fj_runner.specs.declared.left.Left.{Left}
-use Rattle.fj_runner.specs.declared.machine.Machine.{Machine}
-use Rattle.fj_acts.specs.declared.state.Core.{Core as Kept}
+use Rattle.fj_run_script.specs.Machine.{ending_of}
+use Rattle.fj_run_script.specs.declared.ending.Ending.{Ending as Code}
+use Rattle.fj_run_script.specs.declared.left.Left.{Left}
+use Rattle.fj_run_script.specs.declared.machine.Machine.{Machine}
+use Rattle.fj_run_statements.specs.declared.state.Core.{Core as Kept}
 use Rattle.fj_job.specs.Carrying.{HasRun}
 use Rattle.fj_job.specs.Concluding.{HasEnded, IsResult, run_text, fault_text}
 use Rattle.fj_job.specs.Cut.{Reach, Untold, Carried as At, reached, ComesTo, BeginsAt, AreCutShort, AreLeft, IsLearnt, CutByMemory, fault_report, IsFaultReport, IsNext, TookRun, TookReport, TookBehind, CutByDisk, CutBySink}

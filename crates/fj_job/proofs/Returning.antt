@@ -13,21 +13,21 @@ use Rattle.fj_slot.specs.Sound.{IsSound}
 use Rattle.fj_world.specs.Rack.{Rack}
 use Rattle.fj_bay.specs.Bay.{Bay}
 use Rattle.fj_bay.specs.Jobs.{Job, Answer}
-use Rattle.fj_desk.specs.Core.{Connected, has_name}
-use Rattle.fj_desk.specs.Desks.{Desk}
-use Rattle.fj_desk.specs.Desking.{all_left}
-use Rattle.fj_turns.specs.Executing.{HoldsDesks}
-use Rattle.fj_turns.specs.Serving.{over_bays}
-use Rattle.fj_units.specs.Names.{stands, left_of}
-use Rattle.fj_units.specs.Files.{files_of}
-use Rattle.fj_units.specs.Returning.{IsAsDue}
-use Rattle.fj_items.specs.declared.lost.Lost.{Lost}
-use Rattle.fj_closing.specs.Closing.{AreAsDue, AreSeated, AreNamed, IfClear, OthersRun, names_left}
-use Rattle.fj_closing.specs.Finding.{IsLeftBehind, OfEach, AreSpared}
-use Rattle.fj_closing.specs.Fitting.{FitUnits}
-use Rattle.fj_closing.specs.Holding.{HoldUnits}
-use Rattle.fj_closing.specs.Losing.{is_memory}
-use Rattle.fj_closing.proofs.Names.{all_out, all_out_but, none_left, none_left_but, still_stands}
+use Rattle.fj_meaning_jobs.specs.Core.{Connected, has_name}
+use Rattle.fj_meaning_jobs.specs.Desks.{Desk}
+use Rattle.fj_meaning_jobs.specs.Desking.{all_left}
+use Rattle.fj_meaning_turns.specs.Executing.{HoldsDesks}
+use Rattle.fj_meaning_turns.specs.Serving.{over_bays}
+use Rattle.fj_run_units.specs.Names.{stands, left_of}
+use Rattle.fj_run_units.specs.Files.{files_of}
+use Rattle.fj_run_units.specs.Returning.{IsAsDue}
+use Rattle.fj_run_items.specs.declared.lost.Lost.{Lost}
+use Rattle.fj_run_end.specs.Closing.{AreAsDue, AreSeated, AreNamed, IfClear, OthersRun, names_left}
+use Rattle.fj_run_end.specs.Finding.{IsLeftBehind, OfEach, AreSpared}
+use Rattle.fj_run_end.specs.Fitting.{FitUnits}
+use Rattle.fj_run_end.specs.Holding.{HoldUnits}
+use Rattle.fj_run_end.specs.Losing.{is_memory}
+use Rattle.fj_run_end.proofs.Names.{all_out, all_out_but, none_left, none_left_but, still_stands}
 use Rattle.fj_job.specs.Executing.{AreClosed}
 use Rattle.fj_job.specs.Fitting.{kept_name, IsOther, AreOut}
 use Rattle.fj_job.proofs.Leading.{rose_later}

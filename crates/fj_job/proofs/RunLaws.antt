@@ -3,10 +3,10 @@ use Rattle.std.proofs.Common.{◌≡◌, ◌⊎◌, inl, inr, ℕ, Bool, List, �
 use Rattle.std.specs.FinSet as set
 use Rattle.fj_outside.specs.Holdings.{Files}
 use Rattle.fj_statement.specs.declared.reason.Reason.{Reason}
-use Rattle.fj_plain.specs.Statement.{Ending, ended, error_stop, prohibition}
+use Rattle.fj_meaning.specs.Statement.{Ending, ended, error_stop, prohibition}
 use Rattle.fj_statement.specs.declared.deck.Deck.{Deck}
 use Rattle.fj_deck.specs.Deck.{IsDeck, IsRefused}
-use Rattle.fj_items.specs.Handing.{TakesFront}
+use Rattle.fj_run_items.specs.Handing.{TakesFront}
 use Rattle.fj_report.specs.Lines.{usage_text, status_text}
 use Rattle.fj_report.specs.declared.status.Status.{Status}
 use Rattle.fj_report.specs.declared.status.Status.TheVariants.{Ended, ErrorStop, Prohibited, DeckRefused, Usage, ReadFault, WriteFault, DiskFault, Memory}

@@ -5,20 +5,20 @@ use Rattle.fj_statement.specs.declared.deck.Deck.{Deck}
 use Rattle.fj_slot.specs.Serving.{Meaning}
 use Rattle.fj_bay.specs.Bay.{Bay}
 use Rattle.fj_bay.specs.Jobs.{Job, Answer}
-use Rattle.fj_plain.specs.State.{Files}
-use Rattle.fj_plain.specs.Statement.{stated}
+use Rattle.fj_meaning.specs.State.{Files}
+use Rattle.fj_meaning.specs.Statement.{stated}
 use Rattle.fj_world.specs.Alone.{ServedAlone}
 use Rattle.fj_world.specs.Rack.{Rack}
-use Rattle.fj_turns.specs.Run.{Run}
-use Rattle.fj_turns.specs.Serving.{over_bays, Shows, run_conduct, begins}
+use Rattle.fj_meaning_turns.specs.Run.{Run}
+use Rattle.fj_meaning_turns.specs.Serving.{over_bays, Shows, run_conduct, begins}
 use Rattle.fj_world.specs.Losing.{SlotsHold}
-use Rattle.fj_turns.specs.Cutting.{stands}
-use Rattle.fj_turns.proofs.Finishing.{asks_no_more}
-use Rattle.fj_turns.proofs.Meant.{leaves_result}
-use Rattle.fj_cut.proofs.Given.{each_end_given}
-use Rattle.fj_closing.proofs.Ended.{ends_with_units}
-use Rattle.fj_runner.specs.Machine.{run_of}
-use Rattle.fj_runner.specs.declared.machine.Machine.{Machine}
+use Rattle.fj_meaning_turns.specs.Cutting.{stands}
+use Rattle.fj_meaning_turns.proofs.Finishing.{asks_no_more}
+use Rattle.fj_meaning_turns.proofs.Meant.{leaves_result}
+use Rattle.fj_meaning_cut.proofs.Given.{each_end_given}
+use Rattle.fj_run_end.proofs.Ended.{ends_with_units}
+use Rattle.fj_run_script.specs.Machine.{run_of}
+use Rattle.fj_run_script.specs.declared.machine.Machine.{Machine}
 use Rattle.fj_job.specs.Carrying.{HasRun}
 use Rattle.fj_job.proofs.Giving.{given_at}
 

@@ -7,10 +7,10 @@ use Rattle.std.specs.FinSet as set
 use Rattle.fj_outside.specs.Holdings.{Names}
 use Rattle.fj_outside.specs.declared.errors.Stop.{Stop}
 use Rattle.fj_outside.specs.declared.errors.Stop.TheVariants as stop
-use Rattle.fj_units.specs.Names.{stands, AreInUse}
-use Rattle.fj_items.specs.declared.lost.Lost.{Lost}
-use Rattle.fj_items.specs.declared.lost.Lost.TheVariants.{Sink, Disk}
-use Rattle.fj_closing.specs.Losing.{is_memory}
+use Rattle.fj_run_units.specs.Names.{stands, AreInUse}
+use Rattle.fj_run_items.specs.declared.lost.Lost.{Lost}
+use Rattle.fj_run_items.specs.declared.lost.Lost.TheVariants.{Sink, Disk}
+use Rattle.fj_run_end.specs.Losing.{is_memory}
 use Rattle.fj_job.specs.Losing.{first_lost, settled_by, wants}
 
 -- no name stands: none is in use

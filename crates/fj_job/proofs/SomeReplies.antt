@@ -3,8 +3,8 @@ use Rattle.std.proofs.Common.{◌≡◌, inl, inr, ℕ, true, false, List, Optio
 use Rattle.fj_statement.specs.Sound.{IsSound}
 use Rattle.fj_statement.specs.declared.deck.Deck.{Deck}
 use Rattle.fj_deck.specs.Deck.{SomeAnswer, DecksAreSound}
-use Rattle.fj_plain.specs.State.{Files}
-use Rattle.fj_plain.specs.Statement.{Ending, plain_execution}
+use Rattle.fj_meaning.specs.State.{Files}
+use Rattle.fj_meaning.specs.Statement.{Ending, plain_execution}
 use Rattle.fj_gen.specs.Generated.{generated_text}
 use Rattle.fj_job.specs.Reply.{Reply, Reading, IsReading, IsExecuted, IsRunReply, IsMade, IsMadeReply, SomeReply, checked, status_of, report_of, made_report, refusal_reply, usage_reply, text_reply, no_files, Lines, trace_of}
 use Rattle.fj_job.specs.declared.task.Task.TheVariants.{Refuse, Check, Execute, Generate}

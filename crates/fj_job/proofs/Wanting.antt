@@ -9,11 +9,11 @@ use Rattle.fj_slot.specs.Serving.{Meaning}
 use Rattle.fj_bay.specs.Bay.{Bay}
 use Rattle.fj_bay.specs.Jobs.{Job, Answer}
 use Rattle.fj_world.specs.Rack.{Rack}
-use Rattle.fj_plain.specs.State.{State, Files, Output}
-use Rattle.fj_plain.specs.Statement.{Stated, plain_execution, step}
-use Rattle.fj_items.specs.Handing.{TakesFront, whole_records}
-use Rattle.fj_items.specs.declared.lost.Lost.{Lost}
-use Rattle.fj_runner.specs.declared.machine.Machine.{Machine}
+use Rattle.fj_meaning.specs.State.{State, Files, Output}
+use Rattle.fj_meaning.specs.Statement.{Stated, plain_execution, step}
+use Rattle.fj_run_items.specs.Handing.{TakesFront, whole_records}
+use Rattle.fj_run_items.specs.declared.lost.Lost.{Lost}
+use Rattle.fj_run_script.specs.declared.machine.Machine.{Machine}
 use Rattle.fj_job.specs.Cut.{Reach, Untold, Told, Carried as At, reached, MayReach, ComesTo, BeginsAt, IsNext, CutByMemory}
 use Rattle.fj_job.specs.Cutting.{HoldsFiles, IsCut, TookFront}
 use Rattle.fj_job.specs.Executing.{AreClosed}

@@ -16,27 +16,27 @@ use Rattle.fj_slot.specs.Serving.{Meaning}
 use Rattle.fj_bay.specs.Bay.{Bay}
 use Rattle.fj_bay.specs.Jobs.{Job, Answer}
 use Rattle.fj_bay.specs.Plain.{task_of, reply_of}
-use Rattle.fj_plain.specs.State.{Files}
-use Rattle.fj_plain.specs.Statement.{Stated, stated}
-use Rattle.fj_desk.specs.Core.{Core, Connected, has_name}
-use Rattle.fj_desk.specs.Desks.{Outcome}
-use Rattle.fj_desk.specs.Doing.{Doing}
+use Rattle.fj_meaning.specs.State.{Files}
+use Rattle.fj_meaning.specs.Statement.{Stated, stated}
+use Rattle.fj_meaning_jobs.specs.Core.{Core, Connected, has_name}
+use Rattle.fj_meaning_jobs.specs.Desks.{Outcome}
+use Rattle.fj_meaning_jobs.specs.Doing.{Doing}
 use Rattle.fj_world.specs.Rack.{Rack}
-use Rattle.fj_turns.specs.Run.{Run, Stage as PlainStage, Start, Waiting, Acting, Awaiting}
-use Rattle.fj_cut.specs.Others.{core_now}
-use Rattle.fj_units.specs.Having.{HaveFiles, DifferInFile}
-use Rattle.fj_closing.specs.Ended.{unit_names, LeavesNames}
-use Rattle.fj_closing.specs.Holding.{HoldUnits}
-use Rattle.fj_acts.specs.Doing.{then_of}
-use Rattle.fj_acts.specs.Having.{HaveThen}
-use Rattle.fj_acts.specs.declared.doing.Then.{Then}
-use Rattle.fj_acts.specs.declared.doing.Then.TheVariants as then
-use Rattle.fj_acts.specs.State.{core_of}
-use Rattle.fj_runner.specs.Going.{HaveAt, IsGoing}
-use Rattle.fj_runner.specs.Machine.{stage_of, run_at, run_of, stage_at, rest_of, ending_of}
-use Rattle.fj_runner.specs.declared.machine.Machine.{Machine}
-use Rattle.fj_runner.specs.declared.stage.Stage.{Stage}
-use Rattle.fj_runner.specs.declared.stage.Stage.TheVariants as stage
+use Rattle.fj_meaning_turns.specs.Run.{Run, Stage as PlainStage, Start, Waiting, Acting, Awaiting}
+use Rattle.fj_meaning_cut.specs.Others.{core_now}
+use Rattle.fj_run_units.specs.Having.{HaveFiles, DifferInFile}
+use Rattle.fj_run_end.specs.Ended.{unit_names, LeavesNames}
+use Rattle.fj_run_end.specs.Holding.{HoldUnits}
+use Rattle.fj_run_statements.specs.Doing.{then_of}
+use Rattle.fj_run_statements.specs.Having.{HaveThen}
+use Rattle.fj_run_statements.specs.declared.doing.Then.{Then}
+use Rattle.fj_run_statements.specs.declared.doing.Then.TheVariants as then
+use Rattle.fj_run_statements.specs.State.{core_of}
+use Rattle.fj_run_script.specs.Going.{HaveAt, IsGoing}
+use Rattle.fj_run_script.specs.Machine.{stage_of, run_at, run_of, stage_at, rest_of, ending_of}
+use Rattle.fj_run_script.specs.declared.machine.Machine.{Machine}
+use Rattle.fj_run_script.specs.declared.stage.Stage.{Stage}
+use Rattle.fj_run_script.specs.declared.stage.Stage.TheVariants as stage
 use Rattle.fj_job.specs.Carrying.{HasRun}
 use Rattle.fj_job.specs.Fitting.{kept_name, AreOut, LeavesFit}
 use Rattle.fj_job.proofs.Executed.{parts, rest_is, ending_is}

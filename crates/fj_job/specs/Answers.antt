@@ -5,8 +5,8 @@ use Rattle.fj_outside.specs.Holdings.{Files as Held}
 use Rattle.fj_statement.specs.declared.reason.Reason.{Reason}
 use Rattle.fj_statement.specs.declared.deck.Deck.{Deck}
 use Rattle.fj_deck.specs.Deck.{IsDeck, IsRefused}
-use Rattle.fj_plain.specs.State.{Files}
-use Rattle.fj_items.specs.Handing.{TakesFront}
+use Rattle.fj_meaning.specs.State.{Files}
+use Rattle.fj_run_items.specs.Handing.{TakesFront}
 use Rattle.fj_report.specs.Lines.{status_text}
 use Rattle.fj_report.specs.declared.status.Status.{Status}
 use Rattle.fj_report.specs.declared.status.Status.TheVariants.{Ended, ErrorStop, Prohibited, DeckRefused, Usage, ReadFault, WriteFault, DiskFault, Memory}

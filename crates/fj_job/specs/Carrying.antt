@@ -7,22 +7,22 @@ use Rattle.fj_slot.specs.Serving.{Meaning}
 use Rattle.fj_slot.specs.Sound.{IsSound}
 use Rattle.fj_bay.specs.Bay.{Bay}
 use Rattle.fj_bay.specs.Jobs.{Job, Answer}
-use Rattle.fj_plain.specs.State.{Files}
-use Rattle.fj_plain.specs.Statement.{stated}
+use Rattle.fj_meaning.specs.State.{Files}
+use Rattle.fj_meaning.specs.Statement.{stated}
 use Rattle.fj_world.specs.Rack.{Rack}
-use Rattle.fj_cut.specs.Stopping.{HoldsGiven}
-use Rattle.fj_turns.specs.Run.{Run, Start}
-use Rattle.fj_turns.specs.Meant.{Leaves}
-use Rattle.fj_turns.specs.Serving.{first_run}
+use Rattle.fj_meaning_cut.specs.Stopping.{HoldsGiven}
+use Rattle.fj_meaning_turns.specs.Run.{Run, Start}
+use Rattle.fj_meaning_turns.specs.Meant.{Leaves}
+use Rattle.fj_meaning_turns.specs.Serving.{first_run}
 use Rattle.fj_outside.specs.declared.outside.FileStore.{Ghosts}
-use Rattle.fj_items.specs.Handing.{HandsOver}
-use Rattle.fj_items.specs.declared.lost.Lost.TheVariants.{Disk, Sink}
-use Rattle.fj_closing.specs.Holding.{HoldUnits}
-use Rattle.fj_runner.specs.Going.{IsGoing}
-use Rattle.fj_runner.specs.Machine.{run_of}
-use Rattle.fj_runner.specs.Taking.{TakesMore}
-use Rattle.fj_runner.specs.declared.hand.Hand.TheVariants.{Idle}
-use Rattle.fj_runner.specs.declared.machine.Machine.{Machine}
+use Rattle.fj_run_items.specs.Handing.{HandsOver}
+use Rattle.fj_run_items.specs.declared.lost.Lost.TheVariants.{Disk, Sink}
+use Rattle.fj_run_end.specs.Holding.{HoldUnits}
+use Rattle.fj_run_script.specs.Going.{IsGoing}
+use Rattle.fj_run_script.specs.Machine.{run_of}
+use Rattle.fj_run_script.specs.Taking.{TakesMore}
+use Rattle.fj_run_script.specs.declared.hand.Hand.TheVariants.{Idle}
+use Rattle.fj_run_script.specs.declared.machine.Machine.{Machine}
 
 -- a slot to which no job was given, over a bay with nothing
 pub record IsFresh {E J A : Type 0} (m : Meaning E J A Bay Job Answer) (l : Ledger E J A) : Type 0 where

@@ -5,17 +5,17 @@ use Rattle.fj_outside.specs.Holdings.{Files as Held}
 use Rattle.fj_statement.specs.declared.deck.Deck.{Deck}
 use Rattle.fj_statement.specs.declared.deck.Variable.{Variable}
 use Rattle.fj_store.specs.Storage.{values_of}
-use Rattle.fj_plain.specs.State.{Files, Output, Tell}
-use Rattle.fj_plain.specs.Statement.{Ending as PlainEnding, Result}
-use Rattle.fj_pending.specs.Plain.{tells_of}
-use Rattle.fj_acts.specs.declared.state.Core.{Core}
+use Rattle.fj_meaning.specs.State.{Files, Output, Tell}
+use Rattle.fj_meaning.specs.Statement.{Ending as PlainEnding, Result}
+use Rattle.fj_run_pending.specs.Plain.{tells_of}
+use Rattle.fj_run_statements.specs.declared.state.Core.{Core}
 use Rattle.fj_report.specs.Lines.{status_text}
-use Rattle.fj_items.specs.Handing.{open_record}
+use Rattle.fj_run_items.specs.Handing.{open_record}
 use Rattle.fj_report.specs.declared.status.Status.{Status}
 use Rattle.fj_report.specs.declared.status.Status.TheVariants.{DiskFault}
-use Rattle.fj_runner.specs.Machine.{ending_of}
-use Rattle.fj_runner.specs.declared.ending.Ending.{Ending}
-use Rattle.fj_runner.specs.declared.left.Left.{Left}
+use Rattle.fj_run_script.specs.Machine.{ending_of}
+use Rattle.fj_run_script.specs.declared.ending.Ending.{Ending}
+use Rattle.fj_run_script.specs.declared.left.Left.{Left}
 use Rattle.fj_job.specs.Reply.{Reply, Lines, IsRunReply, status_of, variable_lines, files_in}
 
 -- the lines behind the output: those in the middle, how the deck ended, and its variables

@@ -6,19 +6,19 @@ use Rattle.fj_outside.specs.Holdings.{Holdings}
 use Rattle.fj_statement.specs.declared.deck.Variable.{Variable}
 use Rattle.fj_statement.specs.declared.deck.Deck.{Deck}
 use Rattle.fj_statement.specs.declared.deck.Lined.{Lined}
-use Rattle.fj_plain.specs.State.{State, Files, all_closed, start}
-use Rattle.fj_plain.specs.Telling.{waited, after_tells}
-use Rattle.fj_plain.specs.Statement.{Stated, begun_in, control_by, step, stated, cut}
-use Rattle.fj_cut.specs.Others.{names_in, file_about, file_renewed}
-use Rattle.fj_cut.specs.Awaiting.{AwaitedUnit}
-use Rattle.fj_cut.specs.Stopping.{IsLeftShort}
-use Rattle.fj_acts.specs.Calling.{calls_disk}
-use Rattle.fj_units.specs.Files.{files_of}
-use Rattle.fj_units.specs.Returning.{IsAsDue}
+use Rattle.fj_meaning.specs.State.{State, Files, all_closed, start}
+use Rattle.fj_meaning.specs.Telling.{waited, after_tells}
+use Rattle.fj_meaning.specs.Statement.{Stated, begun_in, control_by, step, stated, cut}
+use Rattle.fj_meaning_cut.specs.Others.{names_in, file_about, file_renewed}
+use Rattle.fj_meaning_cut.specs.Awaiting.{AwaitedUnit}
+use Rattle.fj_meaning_cut.specs.Stopping.{IsLeftShort}
+use Rattle.fj_run_statements.specs.Calling.{calls_disk}
+use Rattle.fj_run_units.specs.Files.{files_of}
+use Rattle.fj_run_units.specs.Returning.{IsAsDue}
 use Rattle.fj_report.specs.Lines.{status_text}
 use Rattle.fj_report.specs.declared.status.Status.{Status}
 use Rattle.fj_report.specs.declared.status.Status.TheVariants.{DiskFault, Memory}
-use Rattle.fj_items.specs.Handing.{TakesFront, TakesPart, whole_records}
+use Rattle.fj_run_items.specs.Handing.{TakesFront, TakesPart, whole_records}
 use Rattle.fj_job.specs.Reply.{Reply, Lines, IsRunReply, open_feed}
 
 -- how far a statement came

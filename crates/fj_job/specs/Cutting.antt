@@ -9,26 +9,26 @@ use Rattle.fj_slot.specs.Serving.{Meaning}
 use Rattle.fj_world.specs.Rack.{Rack}
 use Rattle.fj_bay.specs.Bay.{Bay}
 use Rattle.fj_bay.specs.Jobs.{Job, Answer}
-use Rattle.fj_plain.specs.State.{State, Files, all_closed}
-use Rattle.fj_plain.specs.Statement.{Stated, plain_execution, step, stated}
-use Rattle.fj_desk.specs.Core.{Connected, has_name}
-use Rattle.fj_desk.specs.Desks.{Desk}
-use Rattle.fj_desk.specs.Desking.{all_left}
-use Rattle.fj_turns.specs.Executing.{HoldsDesks}
-use Rattle.fj_cut.specs.Others.{names_in, file_about, file_opened, has_file, AreHoused, file_renewed}
-use Rattle.fj_cut.specs.Awaiting.{AwaitedUnit}
-use Rattle.fj_cut.specs.Stopping.{HoldsGiven}
-use Rattle.fj_pending.specs.Plain.{tells_of}
-use Rattle.fj_acts.specs.Calling.{calls_disk}
-use Rattle.fj_units.specs.Files.{files_of}
-use Rattle.fj_units.specs.Returning.{IsAsDue}
-use Rattle.fj_units.specs.Units.{has_slot}
-use Rattle.fj_items.specs.Handing.{whole_records, HandsPart}
-use Rattle.fj_items.specs.declared.lost.Lost.{Lost}
-use Rattle.fj_items.specs.declared.lost.Lost.TheVariants.{Disk, Sink}
-use Rattle.fj_runner.specs.Machine.{rest_of}
-use Rattle.fj_runner.specs.declared.left.Left.{Left}
-use Rattle.fj_runner.specs.declared.machine.Machine.{Machine}
+use Rattle.fj_meaning.specs.State.{State, Files, all_closed}
+use Rattle.fj_meaning.specs.Statement.{Stated, plain_execution, step, stated}
+use Rattle.fj_meaning_jobs.specs.Core.{Connected, has_name}
+use Rattle.fj_meaning_jobs.specs.Desks.{Desk}
+use Rattle.fj_meaning_jobs.specs.Desking.{all_left}
+use Rattle.fj_meaning_turns.specs.Executing.{HoldsDesks}
+use Rattle.fj_meaning_cut.specs.Others.{names_in, file_about, file_opened, has_file, AreHoused, file_renewed}
+use Rattle.fj_meaning_cut.specs.Awaiting.{AwaitedUnit}
+use Rattle.fj_meaning_cut.specs.Stopping.{HoldsGiven}
+use Rattle.fj_run_pending.specs.Plain.{tells_of}
+use Rattle.fj_run_statements.specs.Calling.{calls_disk}
+use Rattle.fj_run_units.specs.Files.{files_of}
+use Rattle.fj_run_units.specs.Returning.{IsAsDue}
+use Rattle.fj_run_units.specs.Units.{has_slot}
+use Rattle.fj_run_items.specs.Handing.{whole_records, HandsPart}
+use Rattle.fj_run_items.specs.declared.lost.Lost.{Lost}
+use Rattle.fj_run_items.specs.declared.lost.Lost.TheVariants.{Disk, Sink}
+use Rattle.fj_run_script.specs.Machine.{rest_of}
+use Rattle.fj_run_script.specs.declared.left.Left.{Left}
+use Rattle.fj_run_script.specs.declared.machine.Machine.{Machine}
 use Rattle.fj_job.specs.Cut.{Reach, Untold, Carried, reached, MayReach, ComesTo, BeginsAt, AreLeft, IsLearnt}
 use Rattle.fj_job.specs.Fitting.{LeavesFit}
 

@@ -12,25 +12,25 @@ use Rattle.fj_slot.specs.Sound.{IsSound}
 use Rattle.fj_world.specs.Rack.{Rack}
 use Rattle.fj_bay.specs.Bay.{Bay}
 use Rattle.fj_bay.specs.Jobs.{Job, Answer}
-use Rattle.fj_plain.specs.Statement.{plain_execution}
-use Rattle.fj_desk.specs.Core.{Connected, has_name}
-use Rattle.fj_desk.specs.Desks.{Desk}
-use Rattle.fj_desk.specs.Desking.{all_left}
-use Rattle.fj_turns.specs.Executing.{HoldsDesks}
-use Rattle.fj_items.specs.Handing.{whole_records, open_record, TakesFront, TakesPart}
-use Rattle.fj_turns.specs.Serving.{over_bays}
-use Rattle.fj_pending.specs.Plain.{tells_of}
-use Rattle.fj_items.specs.declared.lost.Lost.{Lost}
-use Rattle.fj_items.specs.declared.lost.Lost.TheVariants.{Sink, Disk}
-use Rattle.fj_units.specs.Files.{files_of}
-use Rattle.fj_units.specs.Returning.{IsAsDue}
-use Rattle.fj_closing.specs.Closing.{AreSeated, AreNamed, IfClear, OthersRun}
-use Rattle.fj_closing.specs.Finding.{IsLeftBehind, OfEach}
+use Rattle.fj_meaning.specs.Statement.{plain_execution}
+use Rattle.fj_meaning_jobs.specs.Core.{Connected, has_name}
+use Rattle.fj_meaning_jobs.specs.Desks.{Desk}
+use Rattle.fj_meaning_jobs.specs.Desking.{all_left}
+use Rattle.fj_meaning_turns.specs.Executing.{HoldsDesks}
+use Rattle.fj_run_items.specs.Handing.{whole_records, open_record, TakesFront, TakesPart}
+use Rattle.fj_meaning_turns.specs.Serving.{over_bays}
+use Rattle.fj_run_pending.specs.Plain.{tells_of}
+use Rattle.fj_run_items.specs.declared.lost.Lost.{Lost}
+use Rattle.fj_run_items.specs.declared.lost.Lost.TheVariants.{Sink, Disk}
+use Rattle.fj_run_units.specs.Files.{files_of}
+use Rattle.fj_run_units.specs.Returning.{IsAsDue}
+use Rattle.fj_run_end.specs.Closing.{AreSeated, AreNamed, IfClear, OthersRun}
+use Rattle.fj_run_end.specs.Finding.{IsLeftBehind, OfEach}
 use Rattle.fj_report.specs.declared.status.Status.{Status}
 use Rattle.fj_report.specs.declared.status.Status.TheVariants.{WriteFault, DiskFault, Memory}
-use Rattle.fj_runner.specs.Machine.{ending_of}
-use Rattle.fj_runner.specs.declared.ending.Ending.{Ending}
-use Rattle.fj_runner.specs.declared.machine.Machine.{Machine}
+use Rattle.fj_run_script.specs.Machine.{ending_of}
+use Rattle.fj_run_script.specs.declared.ending.Ending.{Ending}
+use Rattle.fj_run_script.specs.declared.machine.Machine.{Machine}
 use Rattle.fj_job.specs.Answers.{IsAnswer, IsOfRun, HasCause, IfFault, IfMemory, IfWriteFault}
 use Rattle.fj_job.specs.Cut.{Carried as At, BeginsAt, BeginsWhere, TookRun, TookReport, IsOfReport, CutByDisk, CutBySink, CutByMemory}
 use Rattle.fj_job.specs.Cutting.{IsLeftAt, IsLeftBegun, TookSome}

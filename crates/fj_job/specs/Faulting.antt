@@ -6,12 +6,12 @@ use Rattle.fj_statement.specs.declared.deck.Deck.{Deck}
 use Rattle.fj_statement.specs.declared.statement.Statement.{Statement}
 use Rattle.fj_statement.specs.declared.statement.Statement.TheVariants as statement
 use Rattle.fj_deck.specs.Deck.{IsDeck}
-use Rattle.fj_plain.specs.Needs.{number_of}
-use Rattle.fj_plain.specs.State.{State, Files}
-use Rattle.fj_plain.specs.Statement.{Stated, step}
-use Rattle.fj_plain.specs.Telling.{is_asynchronous}
-use Rattle.fj_items.specs.Handing.{whole_records}
-use Rattle.fj_acts.specs.Calling.{calls_disk}
+use Rattle.fj_meaning.specs.Needs.{number_of}
+use Rattle.fj_meaning.specs.State.{State, Files}
+use Rattle.fj_meaning.specs.Statement.{Stated, step}
+use Rattle.fj_meaning.specs.Telling.{is_asynchronous}
+use Rattle.fj_run_items.specs.Handing.{whole_records}
+use Rattle.fj_run_statements.specs.Calling.{calls_disk}
 use Rattle.fj_job.specs.Cut.{Carried, ComesTo, CutBySink, IsLearnt}
 use Rattle.fj_job.specs.Reply.{Lines}
 

@@ -6,11 +6,11 @@ use Rattle.fj_slot.specs.Serving.{Meaning}
 use Rattle.fj_world.specs.Rack.{Rack}
 use Rattle.fj_bay.specs.Bay.{Bay}
 use Rattle.fj_bay.specs.Jobs.{Job, Answer}
-use Rattle.fj_desk.specs.Core.{Connected}
-use Rattle.fj_units.specs.Having.{HaveFiles}
-use Rattle.fj_closing.specs.Holding.{HoldUnits}
-use Rattle.fj_acts.specs.Having.{HaveBut}
-use Rattle.fj_runner.specs.declared.machine.Machine.{Machine}
+use Rattle.fj_meaning_jobs.specs.Core.{Connected}
+use Rattle.fj_run_units.specs.Having.{HaveFiles}
+use Rattle.fj_run_end.specs.Holding.{HoldUnits}
+use Rattle.fj_run_statements.specs.Having.{HaveBut}
+use Rattle.fj_run_script.specs.declared.machine.Machine.{Machine}
 
 -- the name of a connection that was kept
 abbrev pub kept_name : {F : Type 0} → Option (Linked F) → Option (List ℕ)

@@ -2,8 +2,8 @@
 use Rattle.std.specs.Prelude.{Bool, true, false, Option, Some, None, Result, Ok, Err}
 use Rattle.fj_outside.specs.declared.errors.Stop.{Stop}
 use Rattle.fj_outside.specs.declared.errors.Stop.TheVariants as stop
-use Rattle.fj_items.specs.declared.lost.Lost.{Lost}
-use Rattle.fj_items.specs.declared.lost.Lost.TheVariants.{Memory, Sink, Disk, Unfit}
+use Rattle.fj_run_items.specs.declared.lost.Lost.{Lost}
+use Rattle.fj_run_items.specs.declared.lost.Lost.TheVariants.{Memory, Sink, Disk, Unfit}
 
 -- want of memory in closing, else what was lost before, else a fault of the disk in closing
 abbrev pub first_lost : Option Lost → Result (Unit {0}) Stop → Option Lost

@@ -1,15 +1,15 @@
 -- How a deck that was made and carried out is summed up, and what is replied.
 use Rattle.std.specs.Prelude.{◌≡◌, ◌⊎◌, ◌++◌, ℕ, false, List, length, Some, Ok}
 use Rattle.fj_statement.specs.declared.deck.Deck.{Deck}
-use Rattle.fj_plain.specs.State.{Files}
-use Rattle.fj_plain.specs.Statement.{Ending as PlainEnding, ended}
-use Rattle.fj_pending.specs.Plain.{tells_of}
+use Rattle.fj_meaning.specs.State.{Files}
+use Rattle.fj_meaning.specs.Statement.{Ending as PlainEnding, ended}
+use Rattle.fj_run_pending.specs.Plain.{tells_of}
 use Rattle.fj_report.specs.Lines.{summary_text}
 use Rattle.fj_report.specs.declared.status.Status.{Status}
-use Rattle.fj_items.specs.Handing.{open_record, TakesFront}
-use Rattle.fj_runner.specs.Machine.{ending_of}
-use Rattle.fj_runner.specs.declared.ending.Ending.{Ending}
-use Rattle.fj_runner.specs.declared.left.Left.{Left}
+use Rattle.fj_run_items.specs.Handing.{open_record, TakesFront}
+use Rattle.fj_run_script.specs.Machine.{ending_of}
+use Rattle.fj_run_script.specs.declared.ending.Ending.{Ending}
+use Rattle.fj_run_script.specs.declared.left.Left.{Left}
 use Rattle.fj_job.specs.Concluding.{run_text}
 use Rattle.fj_job.specs.Reply.{Reply, IsMadeReply, status_of, summed, lines_of}
 use Rattle.fj_job.specs.declared.ending.Carried.{Carried}

@@ -13,8 +13,8 @@ use Rattle.fj_statement.specs.declared.reason.Reason.{Reason}
 use Rattle.fj_statement.specs.Units.{number_from_code}
 use Rattle.fj_deck.specs.Deck.{IsDeck, IsRefused}
 use Rattle.fj_store.specs.Variables.{Variables, value_at}
-use Rattle.fj_plain.specs.State.{Files, Output, Tell, elements}
-use Rattle.fj_plain.specs.Statement.{Result as Left, Ending, ended, error_stop, prohibition, plain_execution}
+use Rattle.fj_meaning.specs.State.{Files, Output, Tell, elements}
+use Rattle.fj_meaning.specs.Statement.{Result as Left, Ending, ended, error_stop, prohibition, plain_execution}
 use Rattle.fj_report.specs.Lines.{usage_text, status_text, check_text, variable_text, trace_text, summary_text}
 use Rattle.fj_report.specs.declared.summary.Summary.{Summary}
 use Rattle.fj_gen.specs.Generated.{generated_text}

@@ -5,9 +5,9 @@ ghost use Rattle.fj_bay.specs.Meaning.{bay_meaning};
 ghost use Rattle.fj_job.specs.Carrying.{AreFresh, IsFresh, HasNotBegun};
 
 use fj_bay::Bay;
-use fj_closing::{Remains, room_for};
 use fj_outside::FileStore;
-use fj_runner::Machine;
+use fj_run_end::{Remains, room_for};
+use fj_run_script::Machine;
 use fj_slot::Slot;
 use fj_statement::Deck;
 use fj_world::Slots;

@@ -5,19 +5,19 @@ ghost use Rattle.std.specs.Option.{option_copied};
 ghost use Rattle.fj_store.specs.Storage.{values_of};
 ghost use Rattle.fj_store.specs.Variables.{value_at};
 ghost use Rattle.fj_report.specs.Lines.{status_text, check_text, summary_text};
-ghost use Rattle.fj_plain.specs.State.{elements};
-ghost use Rattle.fj_pending.specs.Plain.{tells_of};
-ghost use Rattle.fj_runner.specs.Machine.{ending_of};
+ghost use Rattle.fj_meaning.specs.State.{elements};
+ghost use Rattle.fj_run_pending.specs.Plain.{tells_of};
+ghost use Rattle.fj_run_script.specs.Machine.{ending_of};
 ghost use Rattle.fj_job.specs.Reply.{status_of, told_line, lines_of, shown_at, place_line, place_lines, variable_lines};
 ghost use Rattle.fj_job.specs.Concluding.{run_text};
 
 use crate::middle::Middle;
-use fj_acts::Core;
-use fj_pending::Tell;
 use fj_report::{
     Status, Summary, check_line, status_line, summary_line, trace_line, variable_line,
 };
-use fj_runner::Ending;
+use fj_run_pending::Tell;
+use fj_run_script::Ending;
+use fj_run_statements::Core;
 use fj_statement::{Variable, unit_number};
 use fj_store::Store;
 use fj_value::{Place, Tag, Text, Value};

@@ -2,7 +2,7 @@
 ghost use Rattle.std.specs.Prelude.{◌≡◌, ◌⊎◌, ◌≤◌, ◌++◌, ◌↔◌, IfOk, IfErr, length};
 ghost use Rattle.fj_outside.specs.Faults.{Rose};
 ghost use Rattle.fj_outside.specs.Holdings.{Files};
-ghost use Rattle.fj_items.specs.Handing.{TakesFront};
+ghost use Rattle.fj_run_items.specs.Handing.{TakesFront};
 ghost use Rattle.fj_report.specs.Lines.{status_text, check_text, usage_text};
 ghost use Rattle.fj_deck.specs.Deck.{IsDeck};
 ghost use Rattle.fj_statement.specs.Sound.{IsSound};

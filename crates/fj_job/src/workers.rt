@@ -1,7 +1,7 @@
 // How many workers a deck can use.
 ghost use Rattle.std.specs.Prelude.{◌≡◌, if◌then◌else◌};
 ghost use Rattle.std.specs.List.{list_any};
-ghost use Rattle.fj_plain.specs.Reaching.{is_later};
+ghost use Rattle.fj_meaning.specs.Reaching.{is_later};
 
 use fj_statement::{Lined, Statement};
 

@@ -1,12 +1,12 @@
 // Texts that are written to a sink, and why not.
 ghost use Rattle.std.specs.Prelude.{◌≡◌, ◌≤◌, ◌++◌, ◌⊎◌, OnOk, IfErr, Err, ◌↔◌};
 ghost use Rattle.fj_outside.specs.Faults.{Rose};
-ghost use Rattle.fj_items.specs.Handing.{open_record, TakesFront, TakesPart};
+ghost use Rattle.fj_run_items.specs.Handing.{open_record, TakesFront, TakesPart};
 ghost use Rattle.fj_job.specs.Answers.{IsLost};
 
-use fj_items::{Lost, Output, put_all};
 use fj_outside::Sink;
 use fj_report::Status;
+use fj_run_items::{Lost, Output, put_all};
 
 /// The answer where a sink did not take all of it.
 fn not_taken(lost: Lost) -> Status

@@ -13,33 +13,33 @@ use Rattle.fj_world.specs.Plain.{Plain, PlainSlot, asked_next, submitted_to, tol
 use Rattle.fj_world.proofs.Runs.{after_next}
 use Rattle.fj_bay.specs.Bay.{Bay}
 use Rattle.fj_bay.specs.Jobs.{Job, Answer}
-use Rattle.fj_plain.specs.State.{Files}
-use Rattle.fj_plain.specs.Statement.{Stated, stated, control_by, Ending}
-use Rattle.fj_desk.specs.Core.{Core}
-use Rattle.fj_desk.specs.Desks.{Outcome}
-use Rattle.fj_desk.specs.Doing.{Desked}
-use Rattle.fj_desk.specs.Desking.{begun_at, desk_step, fresh}
-use Rattle.fj_turns.specs.Inside.{cut_desks}
-use Rattle.fj_turns.specs.Passing.{passed_by, passed_on, passes}
-use Rattle.fj_turns.specs.Run.{Run, Stage, Start, Waiting, Acting, Awaiting}
-use Rattle.fj_turns.specs.Serving.{over_bays, Shows, first_run, fresh_slots}
-use Rattle.fj_turns.specs.Turns.{Turn, Pauses, Passes, Stops, Asked, begun_for, hand_at, turn_on, turn, turn_start, by_turn, asked}
-use Rattle.fj_turns.proofs.Awaited.{below_or}
-use Rattle.fj_turns.proofs.Passed.{At, Over, long_at, Led, asked_leads}
-use Rattle.fj_turns.proofs.Reaching.{asked_at}
-use Rattle.fj_turns.proofs.Slots.{same_some}
-use Rattle.fj_turns.proofs.Stages.{AtStage}
-use Rattle.fj_turns.proofs.Ties.{Ties}
-use Rattle.fj_looks.specs.Inquiring.{looks_for, is_looking}
-use Rattle.fj_looks.specs.Looking.{goes_until, turn_until, asked_until, stretch_conduct}
-use Rattle.fj_looks.specs.Stretches.{with_rest, StandsAtLook, Between, stretch, Follows}
-use Rattle.fj_looks.proofs.Coming.{by_look, on_turn_is}
-use Rattle.fj_looks.proofs.Meeting.{until_stage, until_turn, until_over}
-use Rattle.fj_looks.proofs.Putting.{asks_follow}
-use Rattle.fj_looks.proofs.Rests.{over, turn_is, HasBegun, IsAsking, Leaves, turn_leaves}
+use Rattle.fj_meaning.specs.State.{Files}
+use Rattle.fj_meaning.specs.Statement.{Stated, stated, control_by, Ending}
+use Rattle.fj_meaning_jobs.specs.Core.{Core}
+use Rattle.fj_meaning_jobs.specs.Desks.{Outcome}
+use Rattle.fj_meaning_jobs.specs.Doing.{Desked}
+use Rattle.fj_meaning_jobs.specs.Desking.{begun_at, desk_step, fresh}
+use Rattle.fj_meaning_turns.specs.Inside.{cut_desks}
+use Rattle.fj_meaning_turns.specs.Passing.{passed_by, passed_on, passes}
+use Rattle.fj_meaning_turns.specs.Run.{Run, Stage, Start, Waiting, Acting, Awaiting}
+use Rattle.fj_meaning_turns.specs.Serving.{over_bays, Shows, first_run, fresh_slots}
+use Rattle.fj_meaning_turns.specs.Turns.{Turn, Pauses, Passes, Stops, Asked, begun_for, hand_at, turn_on, turn, turn_start, by_turn, asked}
+use Rattle.fj_meaning_turns.proofs.Awaited.{below_or}
+use Rattle.fj_meaning_turns.proofs.Passed.{At, Over, long_at, Led, asked_leads}
+use Rattle.fj_meaning_turns.proofs.Reaching.{asked_at}
+use Rattle.fj_meaning_turns.proofs.Slots.{same_some}
+use Rattle.fj_meaning_turns.proofs.Stages.{AtStage}
+use Rattle.fj_meaning_turns.proofs.Ties.{Ties}
+use Rattle.fj_meaning_looks.specs.Inquiring.{looks_for, is_looking}
+use Rattle.fj_meaning_looks.specs.Looking.{goes_until, turn_until, asked_until, stretch_conduct}
+use Rattle.fj_meaning_looks.specs.Stretches.{with_rest, StandsAtLook, Between, stretch, Follows}
+use Rattle.fj_meaning_looks.proofs.Coming.{by_look, on_turn_is}
+use Rattle.fj_meaning_looks.proofs.Meeting.{until_stage, until_turn, until_over}
+use Rattle.fj_meaning_looks.proofs.Putting.{asks_follow}
+use Rattle.fj_meaning_looks.proofs.Rests.{over, turn_is, HasBegun, IsAsking, Leaves, turn_leaves}
 use Rattle.fj_job.proofs.Leaving.{same_index}
 use Rattle.fj_job.proofs.Passes.{EndsSo, passes_on}
-use Rattle.fj_cut.proofs.Given.{within_deck}
+use Rattle.fj_meaning_cut.proofs.Given.{within_deck}
 use Rattle.fj_poll.specs.Looks.{Asks}
 use Rattle.fj_poll.specs.Stretches.{left_from}
 use Rattle.fj_poll.proofs.Standing.{comes_at, between_at}

@@ -13,21 +13,21 @@ use Rattle.fj_world.specs.Plain.{PlainSlot}
 use Rattle.fj_world.specs.Rack.{Rack}
 use Rattle.fj_bay.specs.Bay.{Bay}
 use Rattle.fj_bay.specs.Jobs.{Job, Answer}
-use Rattle.fj_plain.specs.State.{Files}
-use Rattle.fj_plain.specs.Statement.{Stated, stated}
-use Rattle.fj_turns.specs.Run.{Run, Start}
-use Rattle.fj_turns.specs.Serving.{over_bays, Shows, first_run, fresh_slots}
-use Rattle.fj_looks.specs.Inquiring.{is_looking}
-use Rattle.fj_looks.specs.Looking.{asked_until, stretch_conduct}
-use Rattle.fj_looks.specs.Stretches.{Between, stretch}
-use Rattle.fj_looks.proofs.Rests.{IsAsking}
-use Rattle.fj_units.specs.Files.{files_of}
-use Rattle.fj_runner.specs.Failing.{Stays}
-use Rattle.fj_runner.specs.Machine.{rest_of, run_of}
-use Rattle.fj_runner.specs.Short.{FallsShort, IsShort}
-use Rattle.fj_runner.specs.declared.hand.Hand.TheVariants.{Idle}
-use Rattle.fj_runner.specs.declared.machine.Machine.{Machine}
-use Rattle.fj_runner.proofs.AtHand.{rest_same}
+use Rattle.fj_meaning.specs.State.{Files}
+use Rattle.fj_meaning.specs.Statement.{Stated, stated}
+use Rattle.fj_meaning_turns.specs.Run.{Run, Start}
+use Rattle.fj_meaning_turns.specs.Serving.{over_bays, Shows, first_run, fresh_slots}
+use Rattle.fj_meaning_looks.specs.Inquiring.{is_looking}
+use Rattle.fj_meaning_looks.specs.Looking.{asked_until, stretch_conduct}
+use Rattle.fj_meaning_looks.specs.Stretches.{Between, stretch}
+use Rattle.fj_meaning_looks.proofs.Rests.{IsAsking}
+use Rattle.fj_run_units.specs.Files.{files_of}
+use Rattle.fj_run_script.specs.Failing.{Stays}
+use Rattle.fj_run_script.specs.Machine.{rest_of, run_of}
+use Rattle.fj_run_script.specs.Short.{FallsShort, IsShort}
+use Rattle.fj_run_script.specs.declared.hand.Hand.TheVariants.{Idle}
+use Rattle.fj_run_script.specs.declared.machine.Machine.{Machine}
+use Rattle.fj_run_script.proofs.AtHand.{rest_same}
 use Rattle.fj_job.proofs.Cut.{shown}
 use Rattle.fj_job.proofs.CutRuns.{IsRunner, hand_asks, hand_idle}
 use Rattle.fj_job.proofs.Executed.{rest_is}

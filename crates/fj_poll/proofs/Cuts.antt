@@ -11,18 +11,18 @@ use Rattle.fj_world.specs.Plain.{asked_next}
 use Rattle.fj_world.specs.Rack.{Rack}
 use Rattle.fj_bay.specs.Bay.{Bay}
 use Rattle.fj_bay.specs.Jobs.{Job, Answer}
-use Rattle.fj_plain.specs.Statement.{Stated, stated}
-use Rattle.fj_turns.specs.Run.{Run}
-use Rattle.fj_turns.specs.Serving.{over_bays, Shows, run_conduct, first_run, fresh_slots, begins}
-use Rattle.fj_looks.specs.Inquiring.{is_looking}
-use Rattle.fj_looks.specs.Looking.{stretch_conduct}
-use Rattle.fj_looks.specs.Stretches.{Between}
-use Rattle.fj_looks.proofs.Losing.{losses_follow}
-use Rattle.fj_looks.proofs.Worlds.{worlds_end}
-use Rattle.fj_closing.specs.Ended.{StopsFull}
-use Rattle.fj_units.specs.Files.{files_of}
-use Rattle.fj_runner.specs.Leaving.{Leaves}
-use Rattle.fj_runner.specs.declared.machine.Machine.{Machine}
+use Rattle.fj_meaning.specs.Statement.{Stated, stated}
+use Rattle.fj_meaning_turns.specs.Run.{Run}
+use Rattle.fj_meaning_turns.specs.Serving.{over_bays, Shows, run_conduct, first_run, fresh_slots, begins}
+use Rattle.fj_meaning_looks.specs.Inquiring.{is_looking}
+use Rattle.fj_meaning_looks.specs.Looking.{stretch_conduct}
+use Rattle.fj_meaning_looks.specs.Stretches.{Between}
+use Rattle.fj_meaning_looks.proofs.Losing.{losses_follow}
+use Rattle.fj_meaning_looks.proofs.Worlds.{worlds_end}
+use Rattle.fj_run_end.specs.Ended.{StopsFull}
+use Rattle.fj_run_units.specs.Files.{files_of}
+use Rattle.fj_run_script.specs.Leaving.{Leaves}
+use Rattle.fj_run_script.specs.declared.machine.Machine.{Machine}
 use Rattle.fj_job.proofs.CutRuns.{IsRunner, run_cut}
 use Rattle.fj_job.proofs.Leading.{led_to, leaves_same, leaves_on}
 use Rattle.fj_poll.specs.Stretches.{bare, IsBetween, HasCome}

@@ -5,9 +5,9 @@ use Rattle.std.specs.Prelude.{IsErr}
 use Rattle.fj_outside.specs.Holdings.{Holdings}
 use Rattle.fj_statement.specs.Sound.{IsSound}
 use Rattle.fj_statement.specs.declared.deck.Deck.{Deck}
-use Rattle.fj_units.specs.Files.{files_of}
+use Rattle.fj_run_units.specs.Files.{files_of}
 use Rattle.fj_report.specs.declared.status.Status.{Status}
-use Rattle.fj_runner.specs.declared.looking.Look.{Look}
+use Rattle.fj_run_script.specs.declared.looking.Look.{Look}
 use Rattle.fj_job.specs.Answers.{IsAnswer}
 use Rattle.fj_job.specs.Executing.{IsConcluded}
 use Rattle.fj_job.specs.Reply.{Lines}

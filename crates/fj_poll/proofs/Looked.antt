@@ -17,24 +17,24 @@ use Rattle.fj_world.specs.Rack.{Rack}
 use Rattle.fj_world.proofs.Places.{set_other, set_same, slice_get_in}
 use Rattle.fj_bay.specs.Bay.{Bay}
 use Rattle.fj_bay.specs.Jobs.{Job, Answer}
-use Rattle.fj_plain.specs.State.{Files}
-use Rattle.fj_plain.specs.Statement.{Stated, stated, control_by, begins}
-use Rattle.fj_desk.specs.Core.{Core}
-use Rattle.fj_desk.specs.Desks.{Desk}
-use Rattle.fj_desk.specs.Desking.{fresh}
-use Rattle.fj_turns.specs.Inside.{cut_desks}
-use Rattle.fj_turns.specs.Run.{Run, Start}
-use Rattle.fj_turns.specs.Serving.{over_bays, desk_of, desks_of}
-use Rattle.fj_turns.proofs.Passed.{At, long_at, counts_at}
-use Rattle.fj_turns.proofs.Slots.{same_some, count_at, map_get, length_mapped, length_set}
-use Rattle.fj_turns.proofs.Stages.{AtStage}
-use Rattle.fj_turns.proofs.Ties.{Ties}
-use Rattle.fj_cut.specs.Stopping.{WasAwaited}
-use Rattle.fj_looks.specs.Inquiring.{Question, asks_whether, looks_for}
-use Rattle.fj_runner.specs.Looking.{are_done, known_at, look_at}
-use Rattle.fj_runner.specs.declared.looking.Look.{Look}
+use Rattle.fj_meaning.specs.State.{Files}
+use Rattle.fj_meaning.specs.Statement.{Stated, stated, control_by, begins}
+use Rattle.fj_meaning_jobs.specs.Core.{Core}
+use Rattle.fj_meaning_jobs.specs.Desks.{Desk}
+use Rattle.fj_meaning_jobs.specs.Desking.{fresh}
+use Rattle.fj_meaning_turns.specs.Inside.{cut_desks}
+use Rattle.fj_meaning_turns.specs.Run.{Run, Start}
+use Rattle.fj_meaning_turns.specs.Serving.{over_bays, desk_of, desks_of}
+use Rattle.fj_meaning_turns.proofs.Passed.{At, long_at, counts_at}
+use Rattle.fj_meaning_turns.proofs.Slots.{same_some, count_at, map_get, length_mapped, length_set}
+use Rattle.fj_meaning_turns.proofs.Stages.{AtStage}
+use Rattle.fj_meaning_turns.proofs.Ties.{Ties}
+use Rattle.fj_meaning_cut.specs.Stopping.{WasAwaited}
+use Rattle.fj_meaning_looks.specs.Inquiring.{Question, asks_whether, looks_for}
+use Rattle.fj_run_script.specs.Looking.{are_done, known_at, look_at}
+use Rattle.fj_run_script.specs.declared.looking.Look.{Look}
 use Rattle.fj_job.proofs.Leaving.{same_index}
-use Rattle.fj_runner.proofs.Looks.{asks_looked}
+use Rattle.fj_run_script.proofs.Looks.{asks_looked}
 use Rattle.fj_poll.specs.Looks.{given_at, Asks, IsLook, AreSame, IsPut, NoneLooks, NoneLooksBefore}
 use Rattle.fj_poll.proofs.Putting.{LooksTo, are_looks, with_at, asked_before, looks_then}
 

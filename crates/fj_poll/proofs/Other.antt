@@ -8,12 +8,12 @@ use Rattle.fj_world.specs.Losing.{given_number, given_reply, given_outcome, answ
 use Rattle.fj_world.specs.Plain.{Plain, PlainSlot, asked_next, submitted_to, told_from, settled_from, served, next, after}
 use Rattle.fj_bay.specs.Bay.{Bay}
 use Rattle.fj_bay.specs.Jobs.{Job, Answer}
-use Rattle.fj_plain.specs.Statement.{Stated}
-use Rattle.fj_desk.specs.Desks.{Outcome}
-use Rattle.fj_turns.specs.Passing.{passes}
-use Rattle.fj_turns.specs.Run.{Run}
-use Rattle.fj_turns.specs.Serving.{over_bays, Shows, run_conduct}
-use Rattle.fj_looks.specs.Stretches.{with_rest, runs, before, Joins, Between}
+use Rattle.fj_meaning.specs.Statement.{Stated}
+use Rattle.fj_meaning_jobs.specs.Desks.{Outcome}
+use Rattle.fj_meaning_turns.specs.Passing.{passes}
+use Rattle.fj_meaning_turns.specs.Run.{Run}
+use Rattle.fj_meaning_turns.specs.Serving.{over_bays, Shows, run_conduct}
+use Rattle.fj_meaning_looks.specs.Stretches.{with_rest, runs, before, Joins, Between}
 
 module _ {E J A S S' : Type 0} (m : Meaning E J A Bay Job Answer) (s : Shows S) (s' : Shows S') where
   abbrev other : Plain Bay (run_conduct s) → Plain Bay (run_conduct s')

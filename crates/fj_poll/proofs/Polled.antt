@@ -3,7 +3,7 @@ use Rattle.std.proofs.Common.{◌≡◌, ◌⊎◌, ◌↔◌, ◌≤◌, ◌++�
 use Rattle.std.specs.FinSet as set
 use Rattle.fj_outside.specs.Faults.{Rose}
 use Rattle.fj_outside.specs.Holdings.{Holdings}
-use Rattle.fj_items.specs.Handing.{TakesFront}
+use Rattle.fj_run_items.specs.Handing.{TakesFront}
 use Rattle.fj_report.specs.declared.status.Status.{Status}
 use Rattle.fj_report.specs.declared.status.Status.TheVariants.{Memory, Usage}
 use Rattle.fj_job.specs.Answers.{IsAnswer, IsLost, HasCause}

@@ -5,13 +5,13 @@ use Rattle.fj_statement.specs.declared.deck.Lined.{Lined}
 use Rattle.fj_statement.specs.declared.deck.Variable.{Variable}
 use Rattle.fj_statement.specs.declared.deck.Deck.{Deck}
 use Rattle.fj_world.proofs.Places.{set_other}
-use Rattle.fj_plain.specs.State.{Files}
-use Rattle.fj_plain.specs.Statement.{Stated, stated, control_by, Ending}
-use Rattle.fj_desk.specs.Doing.{Desked}
-use Rattle.fj_desk.specs.Desking.{begun_at, desk_step, fresh}
-use Rattle.fj_turns.specs.Inside.{cut_desks}
-use Rattle.fj_cut.specs.Stopping.{WasAwaited}
-use Rattle.fj_runner.specs.declared.looking.Look.{Look}
+use Rattle.fj_meaning.specs.State.{Files}
+use Rattle.fj_meaning.specs.Statement.{Stated, stated, control_by, Ending}
+use Rattle.fj_meaning_jobs.specs.Doing.{Desked}
+use Rattle.fj_meaning_jobs.specs.Desking.{begun_at, desk_step, fresh}
+use Rattle.fj_meaning_turns.specs.Inside.{cut_desks}
+use Rattle.fj_meaning_cut.specs.Stopping.{WasAwaited}
+use Rattle.fj_run_script.specs.declared.looking.Look.{Look}
 use Rattle.fj_poll.specs.Looks.{Asks, IsLook, AreSame, AreLooks}
 
 -- behind these are those

@@ -7,7 +7,7 @@ use Rattle.std.proofs.Crossing.{crosses}
 use Rattle.fj_outside.specs.declared.outside.Disk as disk
 use Rattle.fj_outside.specs.declared.outside.FileStore as files
 use Rattle.fj_outside.specs.declared.outside.Sink as sink
-use Rattle.fj_runner.specs.contracts.stretch.Stretch as Stretch
+use Rattle.fj_run_script.specs.contracts.stretch.Stretch as Stretch
 use Rattle.fj_job.proofs.Sends.{machine_sends}
 
 module _ (a b c : NamedLft) (W D F : RattleType) (gW : sink.Ghosts W.Denot) (gD : disk.Ghosts D.Denot F.Denot) (g : files.Ghosts F.Denot) where

@@ -6,14 +6,14 @@ use Rattle.fj_world.specs.Losing.{HasAsked}
 use Rattle.fj_world.specs.Plain.{PlainSlot}
 use Rattle.fj_bay.specs.Bay.{Bay}
 use Rattle.fj_bay.specs.Jobs.{Job, Answer}
-use Rattle.fj_plain.specs.State.{Files}
-use Rattle.fj_plain.specs.Statement.{Stated}
-use Rattle.fj_desk.specs.Desking.{fresh}
-use Rattle.fj_turns.specs.Passing.{passes}
-use Rattle.fj_turns.specs.Run.{Run}
-use Rattle.fj_turns.specs.Serving.{over_bays, Shows, run_conduct, first_run, fresh_slots}
-use Rattle.fj_turns.proofs.Passed.{At}
-use Rattle.fj_looks.specs.Stretches.{with_rest, before, Joins, Between}
+use Rattle.fj_meaning.specs.State.{Files}
+use Rattle.fj_meaning.specs.Statement.{Stated}
+use Rattle.fj_meaning_jobs.specs.Desking.{fresh}
+use Rattle.fj_meaning_turns.specs.Passing.{passes}
+use Rattle.fj_meaning_turns.specs.Run.{Run}
+use Rattle.fj_meaning_turns.specs.Serving.{over_bays, Shows, run_conduct, first_run, fresh_slots}
+use Rattle.fj_meaning_turns.proofs.Passed.{At}
+use Rattle.fj_meaning_looks.specs.Stretches.{with_rest, before, Joins, Between}
 use Rattle.fj_job.proofs.Learning.{at_before}
 use Rattle.fj_job.proofs.Passes.{EndsSo, passes_on}
 

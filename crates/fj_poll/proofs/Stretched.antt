@@ -11,18 +11,18 @@ use Rattle.fj_world.specs.Rack.{Rack}
 use Rattle.fj_world.proofs.Runs.{ask_finished}
 use Rattle.fj_bay.specs.Bay.{Bay}
 use Rattle.fj_bay.specs.Jobs.{Job, Answer}
-use Rattle.fj_plain.specs.State.{Files}
-use Rattle.fj_plain.specs.Statement.{Stated, stated}
-use Rattle.fj_turns.specs.Run.{Run, Start}
-use Rattle.fj_turns.specs.Serving.{over_bays, Shows, run_conduct, first_run, fresh_slots, begins}
-use Rattle.fj_looks.specs.Inquiring.{is_looking}
-use Rattle.fj_looks.specs.Looking.{stretch_conduct}
-use Rattle.fj_looks.specs.Stretches.{IsOver, StandsAtLook, Between, stretch, ToLook, IsWhole}
-use Rattle.fj_looks.proofs.Entries.{each}
-use Rattle.fj_looks.proofs.Rests.{IsAsking}
-use Rattle.fj_looks.proofs.Worlds.{worlds_go_on, worlds_end}
-use Rattle.fj_runner.specs.Machine.{run_of}
-use Rattle.fj_runner.specs.declared.machine.Machine.{Machine}
+use Rattle.fj_meaning.specs.State.{Files}
+use Rattle.fj_meaning.specs.Statement.{Stated, stated}
+use Rattle.fj_meaning_turns.specs.Run.{Run, Start}
+use Rattle.fj_meaning_turns.specs.Serving.{over_bays, Shows, run_conduct, first_run, fresh_slots, begins}
+use Rattle.fj_meaning_looks.specs.Inquiring.{is_looking}
+use Rattle.fj_meaning_looks.specs.Looking.{stretch_conduct}
+use Rattle.fj_meaning_looks.specs.Stretches.{IsOver, StandsAtLook, Between, stretch, ToLook, IsWhole}
+use Rattle.fj_meaning_looks.proofs.Entries.{each}
+use Rattle.fj_meaning_looks.proofs.Rests.{IsAsking}
+use Rattle.fj_meaning_looks.proofs.Worlds.{worlds_go_on, worlds_end}
+use Rattle.fj_run_script.specs.Machine.{run_of}
+use Rattle.fj_run_script.specs.declared.machine.Machine.{Machine}
 use Rattle.fj_job.proofs.Served.{has_run}
 use Rattle.fj_job.proofs.Cut.{shown}
 use Rattle.fj_job.proofs.CutEnds.{has_ended}

@@ -18,35 +18,35 @@ use Rattle.fj_world.specs.Fits.{SlotsFit}
 use Rattle.fj_world.specs.Rack.{Rack}
 use Rattle.fj_bay.specs.Bay.{Bay}
 use Rattle.fj_bay.specs.Jobs.{Job, Answer}
-use Rattle.fj_plain.specs.State.{Files, Output}
-use Rattle.fj_plain.specs.Statement.{Stated, stated, control_by, begins}
-use Rattle.fj_turns.specs.Run.{Run, Stage, Start}
-use Rattle.fj_turns.specs.Serving.{over_bays, first_run, fresh_slots}
-use Rattle.fj_turns.proofs.Slots.{length_mapped}
-use Rattle.fj_looks.specs.Inquiring.{Question, asks_whether, looks_for, is_looking, question_at}
-use Rattle.fj_looks.specs.Stretches.{with_rest, IsOver, StandsAtLook, Between}
-use Rattle.fj_looks.proofs.Putting.{stretches_begin}
-use Rattle.fj_looks.proofs.Rests.{HasBegun}
-use Rattle.fj_items.specs.Handing.{HandsOver}
-use Rattle.fj_items.specs.declared.lost.Lost.{Lost}
-use Rattle.fj_items.specs.declared.lost.Lost.TheVariants.{Disk}
-use Rattle.fj_units.specs.Files.{files_of}
-use Rattle.fj_runner.specs.Leaving.{Leaves}
-use Rattle.fj_runner.specs.Looking.{are_done, known_at, look_at, question_in, HasLooked}
-use Rattle.fj_runner.specs.Machine.{ending_of, rest_of, run_at, run_of, stage_at, numbered}
-use Rattle.fj_runner.specs.Room.{looks_left}
-use Rattle.fj_runner.specs.Tallying.{due_of, owed_at}
-use Rattle.fj_runner.specs.declared.ending.Ending.{Ending as Code}
-use Rattle.fj_runner.specs.declared.looking.Look.{Look}
-use Rattle.fj_runner.specs.declared.machine.AtHand.{AtHand}
-use Rattle.fj_runner.specs.declared.machine.Machine.{Machine}
-use Rattle.fj_runner.specs.declared.stage.Stage.{Stage as CodeStage}
-use Rattle.fj_runner.specs.declared.state.State.{State}
-use Rattle.fj_runner.specs.declared.tally.Tally.{Tally}
-use Rattle.fj_runner.specs.declared.stage.Stage.TheVariants as stage
-use Rattle.fj_runner.proofs.Known.{none_ended, none_over, question_inside, question_is, sound_known}
-use Rattle.fj_runner.proofs.Looks.{asks_looked, question_some, some_mapped}
-use Rattle.fj_runner.proofs.NextAsks.{at_hand_is, at_start, begun_stage, some_same}
+use Rattle.fj_meaning.specs.State.{Files, Output}
+use Rattle.fj_meaning.specs.Statement.{Stated, stated, control_by, begins}
+use Rattle.fj_meaning_turns.specs.Run.{Run, Stage, Start}
+use Rattle.fj_meaning_turns.specs.Serving.{over_bays, first_run, fresh_slots}
+use Rattle.fj_meaning_turns.proofs.Slots.{length_mapped}
+use Rattle.fj_meaning_looks.specs.Inquiring.{Question, asks_whether, looks_for, is_looking, question_at}
+use Rattle.fj_meaning_looks.specs.Stretches.{with_rest, IsOver, StandsAtLook, Between}
+use Rattle.fj_meaning_looks.proofs.Putting.{stretches_begin}
+use Rattle.fj_meaning_looks.proofs.Rests.{HasBegun}
+use Rattle.fj_run_items.specs.Handing.{HandsOver}
+use Rattle.fj_run_items.specs.declared.lost.Lost.{Lost}
+use Rattle.fj_run_items.specs.declared.lost.Lost.TheVariants.{Disk}
+use Rattle.fj_run_units.specs.Files.{files_of}
+use Rattle.fj_run_script.specs.Leaving.{Leaves}
+use Rattle.fj_run_script.specs.Looking.{are_done, known_at, look_at, question_in, HasLooked}
+use Rattle.fj_run_script.specs.Machine.{ending_of, rest_of, run_at, run_of, stage_at, numbered}
+use Rattle.fj_run_script.specs.Room.{looks_left}
+use Rattle.fj_run_script.specs.Tallying.{due_of, owed_at}
+use Rattle.fj_run_script.specs.declared.ending.Ending.{Ending as Code}
+use Rattle.fj_run_script.specs.declared.looking.Look.{Look}
+use Rattle.fj_run_script.specs.declared.machine.AtHand.{AtHand}
+use Rattle.fj_run_script.specs.declared.machine.Machine.{Machine}
+use Rattle.fj_run_script.specs.declared.stage.Stage.{Stage as CodeStage}
+use Rattle.fj_run_script.specs.declared.state.State.{State}
+use Rattle.fj_run_script.specs.declared.tally.Tally.{Tally}
+use Rattle.fj_run_script.specs.declared.stage.Stage.TheVariants as stage
+use Rattle.fj_run_script.proofs.Known.{none_ended, none_over, question_inside, question_is, sound_known}
+use Rattle.fj_run_script.proofs.Looks.{asks_looked, question_some, some_mapped}
+use Rattle.fj_run_script.proofs.NextAsks.{at_hand_is, at_start, begun_stage, some_same}
 use Rattle.fj_job.specs.Carrying.{AreFresh, HasNotBegun, HasRun, LeavesButDeck}
 use Rattle.fj_job.specs.Cutting.{IsCut, EndsHere}
 use Rattle.fj_job.proofs.Executed.{rest_is}

@@ -5,11 +5,11 @@ use Rattle.fj_outside.specs.Holdings.{Holdings}
 use Rattle.fj_statement.specs.Sound.{IsSound}
 use Rattle.fj_statement.specs.declared.deck.Deck.{Deck}
 use Rattle.fj_deck.specs.Deck.{IsDeck}
-use Rattle.fj_items.specs.Handing.{TakesFront}
-use Rattle.fj_units.specs.Files.{files_of}
+use Rattle.fj_run_items.specs.Handing.{TakesFront}
+use Rattle.fj_run_units.specs.Files.{files_of}
 use Rattle.fj_report.specs.declared.status.Status.{Status}
 use Rattle.fj_report.specs.declared.status.Status.TheVariants.{Usage}
-use Rattle.fj_runner.specs.declared.looking.Look.{Look}
+use Rattle.fj_run_script.specs.declared.looking.Look.{Look}
 use Rattle.fj_job.specs.declared.ending.Carried.{Carried}
 use Rattle.fj_job.specs.declared.task.Task.TheVariants.{Execute}
 use Rattle.fj_job.specs.Answers.{HasRun, HasCause, IsAnswer, IsLost}

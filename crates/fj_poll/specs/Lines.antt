@@ -3,7 +3,7 @@ use Rattle.std.specs.Prelude.{ℕ, List}
 use Rattle.std.specs.List.{flat_map}
 use Rattle.fj_statement.specs.Units.{number_from_code}
 use Rattle.fj_report.specs.Lines.{look_text}
-use Rattle.fj_runner.specs.declared.looking.Look.{Look}
+use Rattle.fj_run_script.specs.declared.looking.Look.{Look}
 use Rattle.fj_job.specs.Reply.{Lines}
 
 abbrev pub line_of : Look → List ℕ

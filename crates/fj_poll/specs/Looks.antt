@@ -4,15 +4,15 @@ use Rattle.std.specs.Prelude.{◌≡◌, ℕ, ◌+◌, ◌<◌, ◌≤◌, nat_l
 use Rattle.fj_statement.specs.Units.{looked}
 use Rattle.fj_statement.specs.declared.deck.Lined.{Lined}
 use Rattle.fj_statement.specs.declared.deck.Deck.{Deck}
-use Rattle.fj_plain.specs.State.{Files}
-use Rattle.fj_plain.specs.Statement.{Stated, stated, control_by}
-use Rattle.fj_desk.specs.Desks.{Desk}
-use Rattle.fj_desk.specs.Doing.{Desked}
-use Rattle.fj_desk.specs.Desking.{begun_at, fresh}
-use Rattle.fj_turns.specs.Inside.{cut_desks}
-use Rattle.fj_cut.specs.Stopping.{WasAwaited}
-use Rattle.fj_looks.specs.Inquiring.{Question, looks_for}
-use Rattle.fj_runner.specs.declared.looking.Look.{Look}
+use Rattle.fj_meaning.specs.State.{Files}
+use Rattle.fj_meaning.specs.Statement.{Stated, stated, control_by}
+use Rattle.fj_meaning_jobs.specs.Desks.{Desk}
+use Rattle.fj_meaning_jobs.specs.Doing.{Desked}
+use Rattle.fj_meaning_jobs.specs.Desking.{begun_at, fresh}
+use Rattle.fj_meaning_turns.specs.Inside.{cut_desks}
+use Rattle.fj_meaning_cut.specs.Stopping.{WasAwaited}
+use Rattle.fj_meaning_looks.specs.Inquiring.{Question, looks_for}
+use Rattle.fj_run_script.specs.declared.looking.Look.{Look}
 
 -- the statement that a look was told
 abbrev pub told_by : Look → Lined → Lined

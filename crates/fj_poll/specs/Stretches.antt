@@ -15,17 +15,17 @@ use Rattle.fj_world.specs.Plain.{PlainSlot}
 use Rattle.fj_world.specs.Rack.{Rack}
 use Rattle.fj_bay.specs.Bay.{Bay}
 use Rattle.fj_bay.specs.Jobs.{Job, Answer}
-use Rattle.fj_plain.specs.State.{Files}
-use Rattle.fj_plain.specs.Statement.{Stated, stated}
-use Rattle.fj_turns.specs.Run.{Run, Start}
-use Rattle.fj_turns.specs.Serving.{over_bays, Shows, first_run, fresh_slots}
-use Rattle.fj_looks.specs.Inquiring.{is_looking}
-use Rattle.fj_looks.specs.Stretches.{with_rest, IsOver, StandsAtLook, Between}
-use Rattle.fj_units.specs.Files.{files_of}
-use Rattle.fj_runner.specs.Machine.{rest_of, run_of}
-use Rattle.fj_runner.specs.Tallying.{due_of, owed_at}
-use Rattle.fj_runner.specs.declared.ending.Ending.{Ending}
-use Rattle.fj_runner.specs.declared.machine.Machine.{Machine}
+use Rattle.fj_meaning.specs.State.{Files}
+use Rattle.fj_meaning.specs.Statement.{Stated, stated}
+use Rattle.fj_meaning_turns.specs.Run.{Run, Start}
+use Rattle.fj_meaning_turns.specs.Serving.{over_bays, Shows, first_run, fresh_slots}
+use Rattle.fj_meaning_looks.specs.Inquiring.{is_looking}
+use Rattle.fj_meaning_looks.specs.Stretches.{with_rest, IsOver, StandsAtLook, Between}
+use Rattle.fj_run_units.specs.Files.{files_of}
+use Rattle.fj_run_script.specs.Machine.{rest_of, run_of}
+use Rattle.fj_run_script.specs.Tallying.{due_of, owed_at}
+use Rattle.fj_run_script.specs.declared.ending.Ending.{Ending}
+use Rattle.fj_run_script.specs.declared.machine.Machine.{Machine}
 use Rattle.fj_job.specs.Carrying.{HasNotBegun, HasRun, LeavesButDeck}
 use Rattle.fj_job.specs.Cutting.{IsCut, EndsHere}
 use Rattle.fj_poll.specs.Looks.{Asks, IsPut, NoneLooks, NoneLooksBefore}

@@ -3,16 +3,16 @@ ghost use Rattle.std.specs.Prelude.{◌≡◌, ◌↔◌, false, [], None, IsTru
 ghost use Rattle.fj_world.specs.Rack.{At};
 ghost use Rattle.fj_crew.specs.Plan.{AllSound};
 ghost use Rattle.fj_bay.specs.Meaning.{bay_meaning};
-ghost use Rattle.fj_units.specs.Names.{AreInUse};
-ghost use Rattle.fj_runner.specs.Going.{IsGoing};
-ghost use Rattle.fj_runner.specs.Leaving.{Leaves};
+ghost use Rattle.fj_run_units.specs.Names.{AreInUse};
+ghost use Rattle.fj_run_script.specs.Going.{IsGoing};
+ghost use Rattle.fj_run_script.specs.Leaving.{Leaves};
 ghost use Rattle.fj_job.specs.Carrying.{AreFresh, HasNotBegun};
 ghost use Rattle.fj_poll.specs.Stretches.{CanBeServed, Comes, HasCarried};
 
 use fj_bay::Bay;
 use fj_crew::serve_with;
 use fj_outside::{Disk, FileStore, Sink};
-use fj_runner::{Inquired, Machine, Stretch};
+use fj_run_script::{Inquired, Machine, Stretch};
 use fj_world::Slots;
 use std::alloc::Global;
 use std::sync::Wait;

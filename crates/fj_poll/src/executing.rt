@@ -11,7 +11,7 @@ use crate::carrying::carry_polled;
 use fj_job::{Carried, Middle, Ready, Status, conclude, ready_for, settle, workers_for};
 use fj_outside::{Disk, FileStore, Sink};
 use fj_report::look_line;
-use fj_runner::Look;
+use fj_run_script::Look;
 use fj_statement::{Deck, unit_number};
 use fj_value::Text;
 use std::alloc::{AllocError, Global};

@@ -1,7 +1,7 @@
 // Words that are no form.
 ghost use Rattle.std.specs.Prelude.{◌≡◌, ◌⊎◌, ◌≤◌, ◌++◌, ◌↔◌};
 ghost use Rattle.fj_outside.specs.Faults.{Rose};
-ghost use Rattle.fj_items.specs.Handing.{TakesFront};
+ghost use Rattle.fj_run_items.specs.Handing.{TakesFront};
 ghost use Rattle.fj_job.specs.Answers.{IsAnswer, IsLost, HasCause};
 ghost use Rattle.fj_poll.specs.Answers.{usage_text};
 

@@ -1,15 +1,15 @@
 // The end of a run over a disk in memory: a file with an open record, and a scratch file.
 ghost use Rattle.std.specs.Prelude.{◌≡◌, true, is_some, IfSome};
 ghost use Rattle.fj_world.specs.Alone.{AllHome};
-ghost use Rattle.fj_units.specs.Names.{AreInUse};
+ghost use Rattle.fj_run_units.specs.Names.{AreInUse};
 
 use fj_bay::{Bay, Job};
-use fj_closing::{finish, room_for};
 use fj_connect::{Connection, open_file};
 use fj_modes::{Access, FileName, FileStatus, OpenSpec, is_file_name, settle_open};
 use fj_outside::{MemoryDisk, MemoryFile};
+use fj_run_end::{finish, room_for};
+use fj_run_units::{Connected, Names, Units};
 use fj_slot::Slot;
-use fj_units::{Connected, Names, Units};
 use fj_value::Boxed;
 use fj_world::Slots;
 use std::alloc::Global;

@@ -2,7 +2,7 @@
 use Came::{At, Done, Is, Refused, Said, Waited};
 use Step::{Answered, EndsHalt, Enter, Has, Next, Reads, Waits};
 use fj_book::Places;
-use fj_pending::{Held, Lost, Pendings, Tell, Told, Whose};
+use fj_run_pending::{Held, Lost, Pendings, Tell, Told, Whose};
 use fj_store::{Runs, Store};
 use fj_value::{Condition, Items, Tag};
 use std::alloc::{AllocError, Global};

@@ -1,8 +1,8 @@
 // Units that come out of order, are replaced and taken off, with the lowest slot that is free; and names.
 use Step::{Insert, Remove};
 use fj_modes::{Access, Action, FileName, Modes, Start, is_file_name, usual_edit};
+use fj_run_units::{Connected, Names, Units};
 use fj_statement::UnitRef;
-use fj_units::{Connected, Names, Units};
 use std::alloc::{AllocError, Global};
 use std::test::Fail;
 

@@ -1,10 +1,10 @@
 use Rattle.std.proofs.Common.{sym, ap, ◌∙◌, refl}
 use Rattle.fj_bay.specs.Meaning.{bay_meaning}
-use Rattle.fj_plain.specs.Statement.{stated}
-use Rattle.fj_turns.specs.Serving.{first_run, fresh_slots}
-use Rattle.fj_units.specs.Files.{files_of}
-use Rattle.fj_looks.proofs.Losing.{lost_at}
-use Rattle.fj_closing.proofs.Ended.{bays_full}
+use Rattle.fj_meaning.specs.Statement.{stated}
+use Rattle.fj_meaning_turns.specs.Serving.{first_run, fresh_slots}
+use Rattle.fj_run_units.specs.Files.{files_of}
+use Rattle.fj_meaning_looks.proofs.Losing.{lost_at}
+use Rattle.fj_run_end.proofs.Ended.{bays_full}
 use Rattle.fj_job.proofs.Fresh.{owed, fresh_at, fit}
 use Rattle.fj_job.proofs.Leading.{leaves_same, but_deck, runner_rests}
 use Rattle.fj_job.proofs.Served.{showing, has_run}

@@ -3,11 +3,11 @@ use denote.Param.Send.{param_send, arg_send}
 use Rattle.std.proofs.Common.{sym, ap, ◌∙◌, refl}
 use Rattle.fj_bay.specs.Meaning.{bay_meaning}
 use Rattle.fj_bay.proofs.Sends.{job_sends}
-use Rattle.fj_plain.specs.Statement.{stated}
-use Rattle.fj_turns.specs.Serving.{first_run, fresh_slots}
-use Rattle.fj_units.specs.Files.{files_of}
-use Rattle.fj_looks.proofs.Losing.{lost_at}
-use Rattle.fj_closing.proofs.Ended.{bays_full}
+use Rattle.fj_meaning.specs.Statement.{stated}
+use Rattle.fj_meaning_turns.specs.Serving.{first_run, fresh_slots}
+use Rattle.fj_run_units.specs.Files.{files_of}
+use Rattle.fj_meaning_looks.proofs.Losing.{lost_at}
+use Rattle.fj_run_end.proofs.Ended.{bays_full}
 use Rattle.fj_job.proofs.Fresh.{few, owed, fresh_at, fit, sound_fresh}
 use Rattle.fj_job.proofs.Leading.{leaves_same, but_deck, runner_rests}
 use Rattle.fj_job.proofs.Sends.{runner_sends}

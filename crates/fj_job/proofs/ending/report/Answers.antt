@@ -1,5 +1,5 @@
 use Rattle.std.proofs.Common.{◌≡◌, inl, inr, sym, ap, ◌∙◌, rules}
-use Rattle.fj_runner.specs.Machine.{ending_of}
+use Rattle.fj_run_script.specs.Machine.{ending_of}
 use Rattle.fj_job.specs.Reply.{status_of}
 use Rattle.fj_report.specs.declared.status.Status.TheVariants.{DiskFault}
 use Rattle.fj_job.proofs.Fronts.{of_report, line_of_fault}

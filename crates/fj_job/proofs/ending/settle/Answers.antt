@@ -1,10 +1,10 @@
 use Rattle.std.proofs.Common.{◌≡◌, ◌⊎◌, Option, Some, None, ◌∙◌, ap, sym, subst}
 use Rattle.fj_bay.specs.Meaning.{bay_meaning}
-use Rattle.fj_items.specs.declared.lost.Lost.{Lost}
-use Rattle.fj_items.specs.declared.lost.Lost.TheVariants.{Disk}
-use Rattle.fj_acts.specs.declared.state.Core.{Core}
-use Rattle.fj_units.specs.Names.{stands}
-use Rattle.fj_closing.specs.Holding.{HoldUnits}
+use Rattle.fj_run_items.specs.declared.lost.Lost.{Lost}
+use Rattle.fj_run_items.specs.declared.lost.Lost.TheVariants.{Disk}
+use Rattle.fj_run_statements.specs.declared.state.Core.{Core}
+use Rattle.fj_run_units.specs.Names.{stands}
+use Rattle.fj_run_end.specs.Holding.{HoldUnits}
 use Rattle.fj_job.specs.Executing.{AreClosed}
 use Rattle.fj_job.specs.Fitting.{kept_name, AreOut}
 use Rattle.fj_job.proofs.Settling.{where_ok, lost_then}

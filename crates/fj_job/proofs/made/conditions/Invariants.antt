@@ -1,5 +1,5 @@
 use Rattle.std.proofs.Common.{◌≡◌, ◌≤◌, ◌+◌, drop}
-use Rattle.fj_pending.specs.Plain.{tells_of}
+use Rattle.fj_run_pending.specs.Plain.{tells_of}
 use Rattle.fj_job.specs.Reply.{conditions_in}
 use Rattle.fj_job.proofs.made.conditions.Given as goal
 

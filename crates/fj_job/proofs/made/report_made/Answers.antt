@@ -1,5 +1,5 @@
 use Rattle.std.proofs.Common.{inr}
-use Rattle.fj_runner.specs.Machine.{ending_of}
+use Rattle.fj_run_script.specs.Machine.{ending_of}
 use Rattle.fj_job.specs.Reply.{status_of}
 use Rattle.fj_job.proofs.RunLaws.{answered}
 use Rattle.fj_job.proofs.made.report_made.Goals as goal

@@ -1,5 +1,5 @@
 use Rattle.std.proofs.Common.{◌≡◌, ◌≤◌, ◌+◌, ◌++◌}
-use Rattle.fj_plain.specs.State.{elements}
+use Rattle.fj_meaning.specs.State.{elements}
 use Rattle.fj_store.specs.Storage.{values_of}
 use Rattle.fj_job.specs.Reply.{place_lines}
 use Rattle.fj_job.proofs.report.push_places.Given as goal

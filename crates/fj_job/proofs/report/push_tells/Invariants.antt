@@ -1,6 +1,6 @@
 use Rattle.std.proofs.Common.{◌≡◌, ◌++◌, drop}
 use Rattle.std.specs.List.{flat_map}
-use Rattle.fj_pending.specs.Plain.{tells_of}
+use Rattle.fj_run_pending.specs.Plain.{tells_of}
 use Rattle.fj_job.specs.Reply.{told_line}
 use Rattle.fj_job.proofs.report.push_tells.Given as goal
 

@@ -1,15 +1,15 @@
 use Rattle.std.proofs.Common.{None, IsSome, slice_get, refl, sym, ap, ◌∙◌, subst}
 use Rattle.std.proofs.Math.Logic.{∥∥₁_map}
 use Rattle.std.proofs.lemmas.Grind.{merely}
-use Rattle.fj_plain.specs.State.{Files}
-use Rattle.fj_plain.specs.Statement.{stated}
+use Rattle.fj_meaning.specs.State.{Files}
+use Rattle.fj_meaning.specs.Statement.{stated}
 use Rattle.fj_bay.specs.Meaning.{bay_meaning}
 use Rattle.fj_crew.proofs.Planning.{fitting_sound}
-use Rattle.fj_looks.specs.Inquiring.{Question}
-use Rattle.fj_units.specs.Files.{files_of}
-use Rattle.fj_runner.specs.Going.{IsGoing}
-use Rattle.fj_runner.specs.Looking.{HasLooked, question_in}
-use Rattle.fj_runner.proofs.NextAsks.{some_same}
+use Rattle.fj_meaning_looks.specs.Inquiring.{Question}
+use Rattle.fj_run_units.specs.Files.{files_of}
+use Rattle.fj_run_script.specs.Going.{IsGoing}
+use Rattle.fj_run_script.specs.Looking.{HasLooked, question_in}
+use Rattle.fj_run_script.proofs.NextAsks.{some_same}
 use Rattle.fj_job.proofs.Fresh.{fit}
 use Rattle.fj_poll.proofs.UnderWay.{first_way, far, sound_still, put_still, looked_way, none_then, before_then, ran_then, ended_then, cut_then, looks_fall}
 use Rattle.fj_poll.proofs.carrying.carry_polled.Goals as goal

@@ -1,8 +1,8 @@
 use Rattle.std.proofs.Common.{◌≡◌, false}
 use Rattle.fj_bay.specs.Meaning.{bay_meaning}
-use Rattle.fj_units.specs.Names.{AreInUse}
-use Rattle.fj_runner.specs.Going.{IsGoing}
-use Rattle.fj_runner.specs.Room.{looks_left}
+use Rattle.fj_run_units.specs.Names.{AreInUse}
+use Rattle.fj_run_script.specs.Going.{IsGoing}
+use Rattle.fj_run_script.specs.Room.{looks_left}
 use Rattle.fj_poll.proofs.UnderWay.{IsUnderWay}
 use Rattle.fj_poll.proofs.carrying.carry_polled.Given as goal
 

@@ -3,7 +3,7 @@ use denote.Param.Send.{param_send, arg_send}
 use Rattle.std.proofs.Common.{sym, ◌∙◌, refl}
 use Rattle.fj_bay.specs.Meaning.{bay_meaning}
 use Rattle.fj_bay.proofs.Sends.{job_sends}
-use Rattle.fj_closing.proofs.Ended.{bays_full}
+use Rattle.fj_run_end.proofs.Ended.{bays_full}
 use Rattle.fj_job.proofs.Leading.{runner_rests}
 use Rattle.fj_job.proofs.Served.{showing}
 use Rattle.fj_poll.proofs.Cuts.{has_come, told_by, not_stopped}

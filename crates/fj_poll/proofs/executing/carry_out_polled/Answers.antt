@@ -3,8 +3,8 @@ use Rattle.std.specs.declared.alloc.Global.{Global}
 use Rattle.std.specs.declared.vec.Vec.{Vec}
 use Rattle.fj_bay.specs.Meaning.{bay_meaning}
 use Rattle.fj_statement.specs.declared.deck.Deck.{Deck}
-use Rattle.fj_units.specs.Files.{files_of}
-use Rattle.fj_runner.specs.declared.looking.Look.{Look}
+use Rattle.fj_run_units.specs.Files.{files_of}
+use Rattle.fj_run_script.specs.declared.looking.Look.{Look}
 use Rattle.fj_job.proofs.CarriedOut.{carried_out}
 use Rattle.fj_job.proofs.Settling.{in_use_none}
 use Rattle.fj_poll.specs.Looks.{IsPut, NoneLooksBefore}

@@ -1,8 +1,8 @@
 use Rattle.std.proofs.Common.{ℕ, List, sym, ap, ◌∙◌}
 use Rattle.std.specs.FinSet as set
 use Rattle.fj_outside.specs.Holdings.{Holdings}
-use Rattle.fj_units.specs.Names.{stands}
-use Rattle.fj_units.proofs.Files.{names-out_of}
+use Rattle.fj_run_units.specs.Names.{stands}
+use Rattle.fj_run_units.proofs.Files.{names-out_of}
 use Rattle.fj_run_tests.proofs.closing.connect.Goals as goal
 
 pub returns : goal.returns

@@ -1,7 +1,7 @@
 use Rattle.std.proofs.Common.{ℕ, List, sym, ap, ◌∙◌}
 use Rattle.std.specs.FinSet as set
 use Rattle.fj_outside.specs.Holdings.{Names}
-use Rattle.fj_units.specs.Names.{stands}
+use Rattle.fj_run_units.specs.Names.{stands}
 use Rattle.fj_run_tests.proofs.closing.end_with.Goals as goal
 
 pub ends_well-fine-requires : goal.ends_well-fine-requires

@@ -1,6 +1,6 @@
 use Rattle.std.proofs.Common.{sym, subst}
 use Rattle.std.proofs.lemmas.Result.{err_from_is_err_and}
-use Rattle.fj_meaning.specs.Declaring.{Declares, Groups, with_declaration, with_group}
+use Rattle.fj_names.specs.Declaring.{Declares, Groups, with_declaration, with_group}
 use Rattle.fj_deck.specs.Faults.{of_meaning}
 use Rattle.fj_deck.specs.Line.{Adds, Declaring, Refuses}
 use Rattle.fj_deck.specs.Seen.{begun_of}

@@ -1,6 +1,0 @@
-use Rattle.fj_turns.specs.Laws.{plain_bays, shown}
-use Rattle.fj_closing.proofs.Ended.{each_turn_holds}
-use Rattle.fj_closing.proofs.laws.turns_hold_units.Goals as goal
-
-pub returns : goal.returns
-returns c = λ s. each_turn_holds plain_bays (shown s)

@@ -1,5 +1,0 @@
-use Rattle.fj_cut.proofs.Stops.{cut_runs_leave_others}
-use Rattle.fj_cut.proofs.laws.cut_runs_leave_others.Goals as goal
-
-pub returns : goal.returns
-returns c = cut_runs_leave_others

@@ -1,5 +1,0 @@
-use Rattle.fj_cut.proofs.Given.{stops_are_given}
-use Rattle.fj_cut.proofs.laws.stops_are_given.Goals as goal
-
-pub returns : goal.returns
-returns c = stops_are_given

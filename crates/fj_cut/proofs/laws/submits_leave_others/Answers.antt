@@ -1,5 +1,0 @@
-use Rattle.fj_cut.proofs.Turns.{submits_leave_others}
-use Rattle.fj_cut.proofs.laws.submits_leave_others.Goals as goal
-
-pub returns : goal.returns
-returns c = submits_leave_others

@@ -1,5 +1,0 @@
-use Rattle.fj_cut.proofs.OneUnit as units
-use Rattle.fj_cut.proofs.laws.waits_at_one_unit.Goals as goal
-
-pub returns : goal.returns
-returns c = units.waits_at_one_unit

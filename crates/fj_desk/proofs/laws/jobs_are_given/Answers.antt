@@ -1,5 +1,0 @@
-use Rattle.fj_desk.proofs.SoundStates as all
-use Rattle.fj_desk.proofs.laws.jobs_are_given.Goals as goal
-
-pub returns : goal.returns
-returns c = all.jobs_are_given

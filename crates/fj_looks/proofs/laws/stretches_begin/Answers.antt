@@ -1,6 +1,0 @@
-use Rattle.fj_turns.specs.Laws.{plain_bays, shown}
-use Rattle.fj_looks.proofs.Putting.{stretches_begin}
-use Rattle.fj_looks.proofs.laws.stretches_begin.Goals as goal
-
-pub returns : goal.returns
-returns c = λ s. stretches_begin plain_bays (shown s)

@@ -1,0 +1,11 @@
+use Rattle.std.proofs.Common.{refl}
+use Rattle.fj_meaning.specs.Statement.{step}
+use Rattle.fj_transfer.specs.Transfer.{transfer_by}
+use Rattle.fj_edit_in.specs.InputField.{trimmed, blanks_read}
+use Rattle.fj_value.specs.Digits.{number_in, numeral}
+use Rattle.fj_internal.specs.Internal.{read_inside, written_inside}
+use Rattle.fj_meaning.proofs.cases.elements_are_left.Goals as goal
+
+pub returns : goal.returns
+unfolding step transfer_by read_inside written_inside trimmed blanks_read number_in numeral
+returns c = (refl, refl)

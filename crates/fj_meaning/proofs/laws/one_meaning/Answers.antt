@@ -1,5 +1,0 @@
-use Rattle.fj_meaning.proofs.Unique.{once}
-use Rattle.fj_meaning.proofs.laws.one_meaning.Goals as goal
-
-pub returns : goal.returns
-returns c = once c.texts_are_unambiguous.ensures

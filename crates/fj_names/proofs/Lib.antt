@@ -1,0 +1,11 @@
+pub mod Cases
+pub mod Choosing
+pub mod NameLemmas
+pub mod IndexLemmas
+pub mod Transferring
+pub mod Unique
+pub mod SoundLemmas
+pub mod StatementSound
+pub mod NamesSound
+pub mod Deciding
+pub mod ScopeSound

@@ -1,0 +1,11 @@
+pub mod Giving
+pub mod Scope
+pub mod Declaring
+pub mod Index
+pub mod Operands
+pub mod Units
+pub mod Calls
+pub mod Transfer
+pub mod Meaning
+pub mod Assembling
+pub mod Sound

@@ -1,5 +1,0 @@
-use Rattle.fj_plain.proofs.Cutting.{cut_is}
-use Rattle.fj_plain.proofs.cut_laws.cut_is_before.Goals as goal
-
-pub returns : goal.returns
-returns c variables index sts s = cut_is variables index sts s

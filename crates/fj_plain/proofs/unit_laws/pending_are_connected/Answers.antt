@@ -1,5 +1,0 @@
-use Rattle.fj_plain.proofs.Reached.{sound_reached}
-use Rattle.fj_plain.proofs.unit_laws.pending_are_connected.Goals as goal
-
-pub returns : goal.returns
-returns c variables sts files = (sound_reached variables sts files).join

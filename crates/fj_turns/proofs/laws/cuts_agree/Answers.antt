@@ -1,5 +1,0 @@
-use Rattle.fj_turns.proofs.Meant as meant
-use Rattle.fj_turns.proofs.laws.cuts_agree.Goals as goal
-
-pub returns : goal.returns
-returns c = meant.cuts_agree

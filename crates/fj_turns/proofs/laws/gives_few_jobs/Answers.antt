@@ -1,5 +1,0 @@
-use Rattle.fj_turns.proofs.FewJobs as few
-use Rattle.fj_turns.proofs.laws.gives_few_jobs.Goals as goal
-
-pub returns : goal.returns
-returns c = few.gives_few_jobs

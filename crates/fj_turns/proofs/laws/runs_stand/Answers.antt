@@ -1,6 +1,0 @@
-use Rattle.fj_turns.specs.Laws.{plain_bays, shown}
-use Rattle.fj_turns.proofs.Before.{each_stands}
-use Rattle.fj_turns.proofs.laws.runs_stand.Goals as goal
-
-pub returns : goal.returns
-returns c = λ s. each_stands plain_bays (shown s)
