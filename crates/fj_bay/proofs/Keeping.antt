@@ -11,8 +11,9 @@ use Rattle.fj_modes.specs.declared.specifiers.Access.{Access}
 use Rattle.fj_modes.specs.declared.specifiers.Access.TheVariants.{Sequential, Direct, Stream}
 use Rattle.fj_modes.specs.Words.{same_access}
 use Rattle.fj_modes.specs.Limits.{longest_file}
-use Rattle.fj_list.specs.declared.moved.Moved.{Moved}
-use Rattle.fj_list.specs.ListInput.{Outcome, list_input, kind_at, with_value}
+use Rattle.fj_moved.specs.declared.moved.Moved.{Moved}
+use Rattle.fj_list.specs.ListInput.{Outcome, list_input}
+use Rattle.fj_moved.specs.Cells.{kind_at, with_value}
 use Rattle.fj_edit_in.specs.InputField.{input_field}
 use Rattle.fj_list.specs.ListText.{text_of}
 use Rattle.fj_namelist.specs.GroupInput.{group_input}

@@ -2,8 +2,8 @@
 use Rattle.std.specs.Prelude.{ℕ, Bool, List, length, Option, if◌then◌else◌}
 use Rattle.fj_value.specs.declared.condition.Condition.{Condition}
 use Rattle.fj_value.specs.declared.edit.EditModes.{EditModes}
-use Rattle.fj_list.specs.declared.moved.Moved.{Moved}
-use Rattle.fj_list.specs.Items.{items_of}
+use Rattle.fj_moved.specs.declared.moved.Moved.{Moved}
+use Rattle.fj_moved.specs.Items.{items_of}
 use Rattle.fj_control.specs.Steps.{Given}
 use Rattle.fj_connect.specs.Connection.{Connection}
 use Rattle.fj_connect.specs.declared.spot.Positioning.{Positioning}

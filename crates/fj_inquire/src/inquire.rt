@@ -8,8 +8,8 @@ use crate::about::About;
 use crate::answers::answer;
 use crate::connected::Connected;
 use fj_connect::Look;
-use fj_list::Cells;
 use fj_modes::{Asked, FileName};
+use fj_moved::Cells;
 use fj_value::Cell;
 use std::alloc::{AllocError, Global};
 

@@ -2,10 +2,10 @@
 use Told::{F, N, T, U, W};
 use fj_connect::{Look, Spot, Within};
 use fj_inquire::{Connected, inquire_file, inquire_unit};
-use fj_list::Cells;
 use fj_modes::{
     Access, Action, Asked, FileName, FileStatus, OpenSpec, Question, Wanted, settle_open,
 };
+use fj_moved::Cells;
 use fj_value::{Delim, Items, Kind, Place, Value};
 use std::alloc::{AllocError, Global};
 use std::test::Fail;

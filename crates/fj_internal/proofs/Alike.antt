@@ -18,7 +18,7 @@ use Rattle.fj_seqrec.proofs.Positions.{line_feed_place}
 use Rattle.fj_seqrec.proofs.LineLemmas.{lines_first}
 use Rattle.fj_control.specs.Paired.{Part, item, string, move, slash, lacking}
 use Rattle.fj_line.specs.Line.{position_behind}
-use Rattle.fj_list.specs.ListInput.{with_value, kind_at}
+use Rattle.fj_moved.specs.Cells.{with_value, kind_at}
 use Rattle.fj_connect.specs.Connection.{Connection, bytes_behind, in_record, past_record}
 use Rattle.fj_edit_in.specs.InputField.{input_field}
 use Rattle.fj_transfer.specs.AtHand.{AtHand, behind, line_at, next_record, record_numbered}

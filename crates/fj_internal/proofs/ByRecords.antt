@@ -15,9 +15,10 @@ use Rattle.fj_seqrec.proofs.LastLine.{lines_behind}
 use Rattle.fj_control.specs.Steps.{Given}
 use Rattle.fj_control.specs.Paired.{Part, item, string, move, slash, lacking, paired}
 use Rattle.fj_line.specs.Line.{position_behind}
-use Rattle.fj_list.specs.ListInput.{Outcome, list_input, kind_at}
+use Rattle.fj_list.specs.ListInput.{Outcome, list_input}
+use Rattle.fj_moved.specs.Cells.{kind_at}
 use Rattle.fj_list.specs.ListText.{text_of}
-use Rattle.fj_list.specs.declared.moved.Moved.{Moved}
+use Rattle.fj_moved.specs.declared.moved.Moved.{Moved}
 use Rattle.fj_namelist.specs.GroupInput.{group_input}
 use Rattle.fj_connect.specs.Connection.{Connection, bytes_behind, in_record}
 use Rattle.fj_connect.specs.declared.spot.Within.TheVariants.{Outside}

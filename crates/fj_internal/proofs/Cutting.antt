@@ -5,7 +5,7 @@ use Rattle.std.proofs.lemmas.Bool.{cases_lt, cases_Bool}
 use Rattle.std.proofs.lemmas.List.{take-take, take_all, drop_all, length-take, length-drop, length-append, length-map}
 use Rattle.fj_value.specs.declared.value.Cell.{Cell}
 use Rattle.fj_value.specs.declared.value.Value.{Value}
-use Rattle.fj_list.specs.ListInput.{with_value}
+use Rattle.fj_moved.specs.Cells.{with_value}
 use Rattle.fj_seqrec.specs.Lines.{lines, first_line, behind_line}
 use Rattle.fj_seqrec.proofs.Positions.{line_feed_place, place-le-length}
 use Rattle.fj_seqrec.proofs.LineLemmas.{lines_first}

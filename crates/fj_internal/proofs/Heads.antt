@@ -13,8 +13,8 @@ use Rattle.fj_control.specs.Steps.{Given}
 use Rattle.fj_control.specs.Paired.{Part, slash, paired}
 use Rattle.fj_list.specs.ListInput.{Outcome}
 use Rattle.fj_list.specs.Scan.{IsOutcome}
-use Rattle.fj_list.specs.declared.moved.GroupMember.{GroupMember}
-use Rattle.fj_list.specs.declared.moved.Moved.{Moved}
+use Rattle.fj_moved.specs.declared.moved.GroupMember.{GroupMember}
+use Rattle.fj_moved.specs.declared.moved.Moved.{Moved}
 use Rattle.fj_transfer.specs.Ahead.{ending_of}
 use Rattle.fj_transfer.specs.Input.{Progress, stopped}
 use Rattle.fj_transfer.specs.Printing.{control_of}

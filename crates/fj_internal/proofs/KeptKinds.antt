@@ -13,7 +13,7 @@ use Rattle.fj_value.specs.declared.value.Cell.{Cell}
 use Rattle.fj_modes.specs.OpenSpec.{bare}
 use Rattle.fj_seqrec.specs.Lines.{lines}
 use Rattle.fj_list.specs.ConstantLaws.{HaveKinds}
-use Rattle.fj_list.specs.ListInput.{places_of}
+use Rattle.fj_moved.specs.Cells.{places_of}
 use Rattle.fj_transfer.specs.Transfer.{transfer_by}
 use Rattle.fj_internal.specs.Internal.{Put, file_of, value_of, set_first, put_if_fine, record_length, written_inside}
 use Rattle.fj_internal.specs.InternalLaws.{ElementsKeepTheirKinds}

@@ -15,8 +15,8 @@ use Rattle.fj_seqrec.specs.LineLaws.{IsPlain}
 use Rattle.fj_seqrec.proofs.LastLine.{lines_behind}
 use Rattle.fj_control.specs.Steps.{Given}
 use Rattle.fj_list.specs.ListText.{text_of}
-use Rattle.fj_list.specs.Load.{with_undefined}
-use Rattle.fj_list.specs.declared.moved.Moved.{Moved}
+use Rattle.fj_moved.specs.Load.{with_undefined}
+use Rattle.fj_moved.specs.declared.moved.Moved.{Moved}
 use Rattle.fj_connect.specs.Connection.{Connection, bytes_before}
 use Rattle.fj_transfer.specs.Change.{changed}
 use Rattle.fj_transfer.specs.Printing.{Printed, printed}

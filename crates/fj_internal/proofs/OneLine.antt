@@ -14,8 +14,8 @@ use Rattle.fj_seqrec.proofs.Positions.{line_feed_place}
 use Rattle.fj_seqrec.proofs.LineLemmas.{lines_first}
 use Rattle.fj_line.specs.declared.unwritten.Unwritten.{Unwritten}
 use Rattle.fj_line.specs.declared.unwritten.Unwritten.TheVariants.{Met}
-use Rattle.fj_list.specs.Items.{Output, items_of}
-use Rattle.fj_list.specs.declared.moved.Moved.{Moved}
+use Rattle.fj_moved.specs.Items.{Output, items_of}
+use Rattle.fj_moved.specs.declared.moved.Moved.{Moved}
 use Rattle.fj_transfer.specs.Change.{changed}
 use Rattle.fj_transfer.specs.Printing.{Printed, actions_by, control_of, printed, printed_by}
 use Rattle.fj_transfer.specs.Transfer.{ends_record}

@@ -5,8 +5,8 @@ use Rattle.fj_value.specs.declared.condition.Condition.TheVariants.{Error}
 use Rattle.fj_value.specs.declared.edit.EditModes.{EditModes}
 use Rattle.fj_value.specs.declared.value.Cell.{Cell}
 use Rattle.fj_modes.specs.Modes.{usual_edit}
-use Rattle.fj_list.specs.Load.{with_undefined}
-use Rattle.fj_list.specs.declared.moved.Moved.{Moved}
+use Rattle.fj_moved.specs.Load.{with_undefined}
+use Rattle.fj_moved.specs.declared.moved.Moved.{Moved}
 use Rattle.fj_transfer.specs.Change.{changed}
 use Rattle.fj_transfer.specs.Printing.{control_of}
 use Rattle.fj_transfer.specs.declared.explicit.Performed.{Performed}

@@ -10,7 +10,7 @@ use Rattle.fj_modes.specs.Words.{same_access}
 use Rattle.fj_seqrec.specs.Lines.{lines}
 use Rattle.fj_control.specs.Steps.{Given}
 use Rattle.fj_control.specs.Paired.{paired}
-use Rattle.fj_list.specs.declared.moved.Moved.{Moved}
+use Rattle.fj_moved.specs.declared.moved.Moved.{Moved}
 use Rattle.fj_list.specs.ListInput.{Outcome, list_input}
 use Rattle.fj_namelist.specs.GroupInput.{group_input}
 use Rattle.fj_connect.specs.Connection.{Connection, bytes_behind, past_record, rest_of_record, with_records}

@@ -13,7 +13,7 @@ use Rattle.fj_modes.specs.Words.{same_access}
 use Rattle.fj_control.specs.Steps.{Given}
 use Rattle.fj_line.specs.declared.unwritten.Unwritten.TheVariants.{Met}
 use Rattle.fj_list.specs.ListText.{text_of}
-use Rattle.fj_list.specs.declared.moved.Moved.{Moved}
+use Rattle.fj_moved.specs.declared.moved.Moved.{Moved}
 use Rattle.fj_connect.specs.Connection.{Connection, begun, missing_feed}
 use Rattle.fj_connect.specs.Positions.{ended}
 use Rattle.fj_transfer.specs.Change.{changed}

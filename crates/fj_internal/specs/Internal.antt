@@ -14,8 +14,8 @@ use Rattle.fj_modes.specs.OpenSpec.{bare}
 use Rattle.fj_modes.specs.declared.specifiers.OpenSpec.{OpenSpec}
 use Rattle.fj_seqrec.specs.Lines.{lines}
 use Rattle.fj_list.specs.ListText.{text_of}
-use Rattle.fj_list.specs.Load.{with_undefined}
-use Rattle.fj_list.specs.declared.moved.Moved.{Moved}
+use Rattle.fj_moved.specs.Load.{with_undefined}
+use Rattle.fj_moved.specs.declared.moved.Moved.{Moved}
 use Rattle.fj_control.specs.Steps.{Given}
 use Rattle.fj_connect.specs.Connection.{Connection}
 use Rattle.fj_connect.specs.Opening.{connected}

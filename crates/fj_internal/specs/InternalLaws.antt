@@ -10,8 +10,8 @@ use Rattle.fj_modes.specs.Modes.{usual_edit}
 use Rattle.fj_modes.specs.declared.specifiers.Access.TheVariants.{Sequential}
 use Rattle.fj_seqrec.specs.Lines.{lines}
 use Rattle.fj_list.specs.ConstantLaws.{HaveKinds}
-use Rattle.fj_list.specs.ListInput.{places_of}
-use Rattle.fj_list.specs.declared.moved.Moved.{Moved}
+use Rattle.fj_moved.specs.Cells.{places_of}
+use Rattle.fj_moved.specs.declared.moved.Moved.{Moved}
 use Rattle.fj_control.specs.Steps.{Given}
 use Rattle.fj_connect.specs.Connection.{Connection, bytes_behind, begun, missing_feed}
 use Rattle.fj_connect.specs.declared.spot.Within.TheVariants.{Outside}

@@ -2,8 +2,8 @@
 use Rattle.std.specs.Prelude.{ℕ, ◌≡◌, Bool, if◌then◌else◌, List, [], ◌∷◌}
 use Rattle.fj_value.specs.declared.condition.Condition.TheVariants.{Fine}
 use Rattle.fj_value.specs.declared.value.Cell.{Cell}
-use Rattle.fj_list.specs.Items.{Output, items_of}
-use Rattle.fj_list.specs.declared.moved.Moved.{Moved}
+use Rattle.fj_moved.specs.Items.{Output, items_of}
+use Rattle.fj_moved.specs.declared.moved.Moved.{Moved}
 use Rattle.fj_transfer.specs.Printing.{control_of}
 use Rattle.fj_transfer.specs.declared.explicit.Performed.{Performed}
 use Rattle.fj_transfer.specs.declared.transfer.TransferSpec.{TransferSpec}

@@ -7,9 +7,10 @@ use Rattle.fj_value.specs.declared.condition.Condition.TheVariants.{Fine, EndOfF
 use Rattle.fj_modes.specs.Limits.{longest_formatted}
 use Rattle.fj_modes.specs.OpenSpec.{bare}
 use Rattle.fj_line.specs.Line.{position_behind}
-use Rattle.fj_list.specs.ListInput.{Outcome, list_input, kind_at}
-use Rattle.fj_list.specs.Load.{with_undefined}
-use Rattle.fj_list.specs.declared.moved.Moved.{Moved}
+use Rattle.fj_list.specs.ListInput.{Outcome, list_input}
+use Rattle.fj_moved.specs.Cells.{kind_at}
+use Rattle.fj_moved.specs.Load.{with_undefined}
+use Rattle.fj_moved.specs.declared.moved.Moved.{Moved}
 use Rattle.fj_namelist.specs.GroupInput.{group_input}
 use Rattle.fj_control.specs.Steps.{Given}
 use Rattle.fj_control.specs.Paired.{Part, item, string, move, slash, lacking, paired}

@@ -3,7 +3,7 @@ ghost use Rattle.std.specs.Prelude.{◌≡◌, ◌≤◌, length};
 ghost use Rattle.std.specs.List.{list_any};
 ghost use Rattle.fj_internal.specs.Internal.{characters_of, holds_line_end, records_of, record_length, set_first};
 
-use fj_list::{Cells, define};
+use fj_moved::{Cells, define};
 use fj_value::{Cell, Kind, Value};
 use memchr::memchr2;
 

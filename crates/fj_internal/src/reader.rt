@@ -5,7 +5,7 @@ ghost use Rattle.fj_line.specs.Line.{position_behind};
 ghost use Rattle.fj_format.specs.Unfolding as elementary;
 ghost use Rattle.fj_control.specs.Steps.{Given, gives, no_data};
 ghost use Rattle.fj_control.specs.Walk.{given, due, items_behind};
-ghost use Rattle.fj_list.specs.ListInput.{kind_at, places_of};
+ghost use Rattle.fj_moved.specs.Cells.{kind_at, places_of};
 ghost use Rattle.fj_transfer.specs.Input.{Progress, Ended, field_read, stopped};
 ghost use Rattle.fj_transfer.specs.Reader.{comes};
 ghost use Rattle.fj_internal.specs.Records.{progress_of, records_behind, items_left, parts_left, taken_out, IsReady};
@@ -13,8 +13,8 @@ ghost use Rattle.fj_internal.specs.Records.{progress_of, records_behind, items_l
 use crate::elements::characters;
 use crate::fields::{characters_for, field_value, width_for};
 use fj_control::{Cursor, Move, Step, modes_behind};
-use fj_list::{Cells, define};
 use fj_modes::LONGEST_FORMATTED;
+use fj_moved::{Cells, define};
 use fj_value::{Cell, Condition, Edit, EditModes, Kind, Value};
 use std::alloc::{AllocError, Global};
 

@@ -1,8 +1,8 @@
 // READ on an internal file of one element, by its characters.
 ghost use Rattle.std.specs.Prelude.{◌≡◌, ◌<◌, ◌^◌, ◌∷◌, [], length, IfOk};
 ghost use Rattle.fj_control.specs.Steps.{steps};
-ghost use Rattle.fj_list.specs.ListInput.{places_of};
-ghost use Rattle.fj_list.specs.Moved.{IsOrdered};
+ghost use Rattle.fj_moved.specs.Cells.{places_of};
+ghost use Rattle.fj_moved.specs.Moved.{IsOrdered};
 ghost use Rattle.fj_transfer.specs.Printing.{IsOfItems};
 ghost use Rattle.fj_internal.specs.Internal.{IsInput};
 ghost use Rattle.fj_internal.specs.OneElement.{TakesOne};
@@ -11,8 +11,9 @@ ghost use Rattle.fj_internal.specs.Records.{explicit_taken, listed_taken, taken_
 use crate::elements::holds_line_end;
 use crate::read::{leave, read_from, unstopped};
 use fj_format::Format;
-use fj_list::{More, Moved, Records, read_list};
+use fj_list::{More, Records, read_list};
 use fj_modes::{LONGEST_FORMATTED, usual_edit};
+use fj_moved::Moved;
 use fj_outside::Stop;
 use fj_transfer::{Layout, Performed, TransferSpec};
 use fj_value::{Condition, EditModes, Text};

@@ -1,6 +1,6 @@
 // Statements on internal files of two elements, and of one, with what they leave written out by hand.
 ghost use Rattle.std.specs.Prelude.{◌≡◌, ◌<◌, ◌≤◌, ◌^◌, [], None, length, All, IfOk};
-ghost use Rattle.fj_list.specs.Moved.{AreDistinct, IsOrdered};
+ghost use Rattle.fj_moved.specs.Moved.{AreDistinct, IsOrdered};
 ghost use Rattle.fj_namelist.specs.GroupText.{IsWithin};
 ghost use Rattle.fj_transfer.specs.Moving.{members_of};
 ghost use Rattle.fj_transfer.specs.Printing.{IsOfItems, IsRecords};
@@ -8,7 +8,7 @@ ghost use Rattle.fj_transfer.specs.Printing.{IsOfItems, IsRecords};
 use crate::{One, read_internal, read_one, write_internal, write_one};
 use Condition::{EndOfFile, Error, Fine};
 use fj_format::parse;
-use fj_list::{Cells, Load, Moved};
+use fj_moved::{Cells, Load, Moved};
 use fj_transfer::{EditChange, Layout, Transfer, TransferSpec};
 use fj_value::{Cell, Condition, Items, Kind, Place, Tag, Text, Value};
 use std::alloc::{AllocError, Global};

@@ -10,8 +10,8 @@ ghost use Rattle.fj_internal.specs.Internal.{IsOutput, record_length, put_record
 use crate::elements::{record_length, set_first};
 use crate::lines::values_of;
 use fj_line::Unwritten;
-use fj_list::Cells;
 use fj_modes::{LONGEST_FILE, usual_edit};
+use fj_moved::Cells;
 use fj_transfer::{Layout, Transfer, TransferSpec, print_onto};
 use fj_value::{Condition, Text};
 use std::alloc::{AllocError, Global};

@@ -20,7 +20,7 @@ use Rattle.fj_line.specs.Records.{texts_from, texts_of}
 use Rattle.fj_control.specs.Steps.{Given}
 use Rattle.fj_connect.specs.Connection.{Connection}
 use Rattle.fj_list.specs.ListText.{text_of}
-use Rattle.fj_list.specs.declared.moved.Moved.{Moved}
+use Rattle.fj_moved.specs.declared.moved.Moved.{Moved}
 use Rattle.fj_transfer.specs.Change.{changed}
 use Rattle.fj_transfer.specs.declared.transfer.TransferSpec.{TransferSpec}
 use Rattle.fj_transfer.specs.declared.transfer.Layout.{Layout}

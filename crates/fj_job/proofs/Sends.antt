@@ -7,7 +7,7 @@ use denote.Param.SendFields.{as_row_send, declared_send, variants_send}
 use Rattle.std.proofs.Crossing.{crosses}
 use Rattle.fj_bay.proofs.Sends.{text_sends, items_sends, value_sends, value_sync, elements_sends, file_name_sends, modes_sends, format_sends, load_sends, answer_sends, connection_sends, job_sends}
 use Rattle.fj_job.proofs.RunsSend.{runs_sends}
-use Rattle.fj_list.specs.declared.elements.Element as element
+use Rattle.fj_moved.specs.declared.elements.Element as element
 use Rattle.fj_outside.specs.declared.outside.Disk as disk
 use Rattle.fj_outside.specs.declared.outside.FileStore as files
 use Rattle.fj_outside.specs.declared.outside.Sink as sink

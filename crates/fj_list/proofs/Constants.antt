@@ -25,7 +25,8 @@ use Rattle.fj_value.specs.Reading.{with_sign, truth_read, assigned_text}
 use Rattle.fj_list.specs.Constant.{signed_number, integer_in, integer_read, logical_read, read_as}
 use Rattle.fj_list.specs.ConstantLaws as laws
 use Rattle.fj_list.specs.ConstantLaws.{IsInteger, IsIntegerRead, IntegersAreRead, ConstantsAreOfKind, HaveKinds, CellsKeepKinds}
-use Rattle.fj_list.specs.ListInput.{Split, stopped, Outcome, kind_at, with_value, split, supplied, served, served_from, items_read, list_input}
+use Rattle.fj_list.specs.ListInput.{Split, stopped, Outcome, split, supplied, served, served_from, items_read, list_input}
+use Rattle.fj_moved.specs.Cells.{kind_at, with_value}
 use Rattle.fj_list.proofs.Numbers.{no_digit_is}
 use Rattle.fj_list.proofs.GrammarLaws.{digit_first, all_digits}
 use Rattle.fj_list.proofs.Plain.{NoSign, integer_unsigned}

@@ -16,9 +16,5 @@ pub mod Meaning
 pub mod Constants
 pub mod ListLaws
 pub mod Integers
-pub mod ItemLemmas
-pub mod LoadLemmas
-pub mod ElementLemmas
 pub mod Cutting
-pub mod MovedLemmas
 pub mod Rows

@@ -11,7 +11,8 @@ use Rattle.fj_list.specs.declared.constant.Read.{Read}
 use Rattle.fj_list.specs.declared.constant.Read.TheVariants as read
 use Rattle.fj_list.specs.Stream.{Stream, stream, front, behind, is_blank, skipped}
 use Rattle.fj_list.specs.Constant.{read_as}
-use Rattle.fj_list.specs.ListInput.{Split, value, stopped, is_separator, ends_constant, is_mark, has_ended, with_front, delimited, closed, constant_at, repeated, counted, is_no_digit, token_at, value_at, past_separator, value_start, split, Outcome, kind_at, with_value, served, served_from, items_read, list_input}
+use Rattle.fj_list.specs.ListInput.{Split, value, stopped, is_separator, ends_constant, is_mark, has_ended, with_front, delimited, closed, constant_at, repeated, counted, is_no_digit, token_at, value_at, past_separator, value_start, split, Outcome, served, served_from, items_read, list_input}
+use Rattle.fj_moved.specs.Cells.{kind_at, with_value}
 use Rattle.fj_list.specs.LookedAt.{MeetsEnd, Looks, at_the_first, to_the_end, RecordsAreLookedAtAsNeeded}
 use Rattle.fj_list.proofs.StreamLaws.{records_behind-stream, records_behind-nil, front_is, behind_is}
 use Rattle.fj_list.proofs.Tokens.{token_is}

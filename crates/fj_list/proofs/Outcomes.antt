@@ -1,13 +1,11 @@
 -- What a scan's answers come to.
-use Rattle.std.proofs.Common.{◌≡◌, ℕ, zero, suc, ◌+◌, ◌-◌, ◌<◌, ◌≤◌, Bool, true, false, List, [], ◌∷◌, length, get_or, map, drop, set, Option, Some, None, is_some, slice_get, sym, ap, ◌∙◌, refl, subst, arith}
+use Rattle.std.proofs.Common.{◌≡◌, ℕ, ◌+◌, ◌-◌, ◌<◌, ◌≤◌, Bool, true, false, List, [], ◌∷◌, length, get_or, drop, Option, Some, None, is_some, sym, ap, ◌∙◌, refl, subst, arith}
 use Rattle.std.proofs.lemmas.Bool.{false≢true}
-use Rattle.std.proofs.lemmas.Option.{none-some, same_Some}
 use Rattle.std.proofs.lemmas.List.{drop_more}
 use Rattle.std.specs.List.{position_or_len}
 use Rattle.fj_value.specs.declared.condition.Condition.{Condition}
 use Rattle.fj_value.specs.declared.condition.Condition.TheVariants.{Fine, Error}
 use Rattle.fj_value.specs.declared.value.Cell.{Cell}
-use Rattle.fj_value.specs.declared.value.Value.{Value}
 use Rattle.fj_list.specs.declared.constant.Form.{Form}
 use Rattle.fj_list.specs.declared.constant.Form.TheVariants.{Null, Undelimited, Delimited}
 use Rattle.fj_list.specs.declared.constant.Read.{Read}
@@ -15,7 +13,8 @@ use Rattle.fj_list.specs.declared.constant.Read.TheVariants as read
 use Rattle.fj_list.specs.declared.scan.Scan.{Scan}
 use Rattle.fj_list.specs.Stream.{Stream, stream, records_in, records_behind, is_no_blank, skipped}
 use Rattle.fj_list.specs.Constant.{read_as}
-use Rattle.fj_list.specs.ListInput.{Split, value, stopped, closed, delimited, with_front, has_ended, value_at, value_start, split, supplied, Outcome, kind_at, with_value, served, served_from, items_read, list_input, places_of}
+use Rattle.fj_list.specs.ListInput.{Split, value, stopped, closed, delimited, with_front, has_ended, value_at, value_start, split, supplied, Outcome, served, served_from, items_read, list_input}
+use Rattle.fj_moved.specs.Cells.{kind_at}
 use Rattle.fj_list.specs.Scan.{ahead, constant_of, Reaches, Closes, IsSplit, Serves, IsOutcome}
 use Rattle.fj_list.proofs.StreamLaws.{skip_stops, records_in-stream, records_behind-stream, records_behind-nil}
 
@@ -79,22 +78,6 @@ closed_wrong comma ending count found cs s is ended = ap (closed comma ending co
 
 pub closed_missing : (comma : Bool) (ending : Condition) (count : ℕ) (found : Option (List ℕ × Stream)) → found ≡ None → closed comma ending count found ≡ stopped ending []
 closed_missing comma ending count found is = ap (closed comma ending count) is
-
--- a cell gets a value
-pub set_value : (cells : List Cell) (at : ℕ) (cell : Cell) (v : Value) → slice_get cells at ≡ Some cell → set cells at (record cell { value = v }) ≡ with_value cells at v
-set_value [] at cell v e = absurd (none-some cell e)
-set_value (c ∷ cells) zero cell v e = ap (λ (d : Cell). record d { value = v } ∷ cells) (sym (same_Some c cell e))
-set_value (c ∷ cells) (suc at) cell v e = ap (λ (cs : List Cell). c ∷ cs) (set_value cells at cell v e)
-
-pub places_kept : (cells : List Cell) (at : ℕ) (v : Value) → places_of (with_value cells at v) ≡ places_of cells
-places_kept [] at v = refl
-places_kept (c ∷ cells) zero v = refl
-places_kept (c ∷ cells) (suc at) v = ap (λ ps. (c.place, c.kind) ∷ ps) (places_kept cells at v)
-
-pub count_kept : (cells : List Cell) (at : ℕ) (v : Value) → length (with_value cells at v) ≡ length cells
-count_kept [] at v = refl
-count_kept (c ∷ cells) zero v = refl
-count_kept (c ∷ cells) (suc at) v = ap suc (count_kept cells at v)
 
 -- items
 pub items_step : (comma : Bool) (ending : Condition) (order : List ℕ) (i : ℕ) (cells : List Cell) (first : Bool) (count : ℕ) (form : Form) (cs : List ℕ) (s : Stream) → i < length order

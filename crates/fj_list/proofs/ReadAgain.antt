@@ -19,7 +19,8 @@ use Rattle.fj_list.specs.declared.constant.Read.TheVariants as read
 use Rattle.fj_list.specs.Stream.{Stream, stream, records_behind, skipped}
 use Rattle.fj_list.specs.ListText.{mark_of, characters_shown, integer_shown, shown, is_characters, gap, continued}
 use Rattle.fj_list.specs.Constant.{read_as}
-use Rattle.fj_list.specs.ListInput.{Split, value, Outcome, kind_at, with_value, split, served, served_from, items_read, list_input}
+use Rattle.fj_list.specs.ListInput.{Split, value, Outcome, split, served, served_from, items_read, list_input}
+use Rattle.fj_moved.specs.Cells.{kind_at, with_value}
 use Rattle.fj_list.specs.ReadAgain.{AreOfKinds, with_values, ValuesAreReadAgain}
 use Rattle.fj_list.proofs.StreamLaws.{records_behind-stream}
 use Rattle.fj_list.proofs.Plain.{chars, Follows, undelimited_reads, IsDelimiter, apostrophe_is, quotation_mark_is, delimited_reads, letter_plain, magnitude, integer_plain, integer_again, assigned_whole}

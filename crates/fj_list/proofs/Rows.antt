@@ -17,7 +17,7 @@ use Rattle.fj_value.specs.declared.value.Value.TheVariants as value
 use Rattle.fj_line.specs.Line.{LineState}
 use Rattle.fj_line.specs.Actions.{Action, put, AtHand, behind, excess_of, excess, unless, carried_out}
 use Rattle.fj_line.specs.Records.{texts_from}
-use Rattle.fj_list.specs.Items.{Output, of_kind, values_in}
+use Rattle.fj_moved.specs.Items.{Output, of_kind, values_in}
 use Rattle.fj_list.specs.ListText.{gap, shown, integer_shown, passes_columns}
 use Rattle.fj_list.specs.Listing.{texts_behind, next_text, width_behind, behind_blank, IsNoText}
 use Rattle.fj_list.proofs.ListLaws.{at_end, longer_line}

@@ -9,7 +9,8 @@ use Rattle.fj_list.specs.declared.constant.Read.{Read}
 use Rattle.fj_list.specs.declared.constant.Read.TheVariants as read
 use Rattle.fj_list.specs.Stream.{Stream, stream}
 use Rattle.fj_list.specs.Constant.{read_as}
-use Rattle.fj_list.specs.ListInput.{Split, value, stopped, Outcome, kind_at, with_value, split, served, served_from, items_read}
+use Rattle.fj_list.specs.ListInput.{Split, value, stopped, Outcome, split, served, served_from, items_read}
+use Rattle.fj_moved.specs.Cells.{kind_at, with_value}
 use Rattle.fj_list.specs.Grammar.{Given, given, Finish, at_records_end, at_slash, at_no_value, IsListText}
 use Rattle.fj_list.specs.Understood.{Constant, constants, end_of, Result, taken, all_taken, TextIsReadAsItsValues, TextHasOneMeaning}
 use Rattle.fj_list.proofs.GrammarLaws.{Step, step_of}

@@ -1,10 +1,5 @@
 pub mod Records
-pub mod Moved
 pub mod ListText
-pub mod Items
-pub mod Load
-pub mod Values
-pub mod Elements
 pub mod Listing
 pub mod Stream
 pub mod Constant

@@ -1,15 +1,12 @@
 -- List-directed input (ISO/IEC 1539-1:2004, 10.9.1): values split off records, and converted for their items.
-use Rattle.std.specs.Prelude.{ℕ, zero, suc, ◌-◌, ◌^◌, Bool, true, false, ◌||◌, ◌&&◌, not, ◌==◌, nat_lt, if◌then◌else◌, List, [], ◌∷◌, ◌++◌, map, Option, Some, None, slice_get}
-use Rattle.std.specs.Option.{option_map, option_map_or}
+use Rattle.std.specs.Prelude.{ℕ, zero, suc, ◌-◌, ◌^◌, Bool, true, false, ◌||◌, ◌&&◌, not, ◌==◌, nat_lt, if◌then◌else◌, List, [], ◌∷◌, ◌++◌, Option, Some, None}
+use Rattle.std.specs.Option.{option_map}
 use Rattle.std.specs.Char.{is_ascii_digit}
 use Rattle.fj_value.specs.Digits.{number_in}
-use Rattle.fj_value.specs.declared.kind.Kind.{Kind}
-use Rattle.fj_value.specs.declared.kind.Kind.TheVariants.{Logical}
-use Rattle.fj_value.specs.declared.place.Place.{Place}
 use Rattle.fj_value.specs.declared.value.Cell.{Cell}
-use Rattle.fj_value.specs.declared.value.Value.{Value}
 use Rattle.fj_value.specs.declared.condition.Condition.{Condition}
 use Rattle.fj_value.specs.declared.condition.Condition.TheVariants.{Fine, EndOfFile, Error}
+use Rattle.fj_moved.specs.Cells.{kind_at, with_value}
 use Rattle.fj_list.specs.Stream.{Stream, stream, records_behind, front, behind, is_blank, skipped}
 use Rattle.fj_list.specs.Constant.{read_as}
 use Rattle.fj_list.specs.declared.constant.Form.{Form}
@@ -118,15 +115,6 @@ pub record Outcome : Type 0 where
   pub condition : Condition
   pub left : List (List ℕ)
 
-abbrev pub kind_at : List Cell → ℕ → Kind
-kind_at cells at = option_map_or (λ (cell : Cell). cell.kind) (slice_get cells at) Logical
-
--- a cell gets a value
-abbrev pub with_value : List Cell → ℕ → Value → List Cell
-with_value [] at v = []
-with_value (cell ∷ cells) zero v = record cell { value = v } ∷ cells
-with_value (cell ∷ cells) (suc at) v = cell ∷ with_value cells at v
-
 -- a null value leaves the cell as it is, and a condition ends the statement
 abbrev pub served : Read → List Cell → ℕ → Stream → (List Cell → Outcome) → Outcome
 served read.Null cells at s next = next cells
@@ -152,7 +140,3 @@ condition_of (Some condition) = condition
 abbrev pub list_input : Bool → List (List ℕ) → Condition → List Cell → List ℕ → Outcome
 list_input comma [] ending cells order = record { cells = cells; condition = ending; left = [] }
 list_input comma (line ∷ lines) ending cells order = items_read comma ending order cells true 0 Null [] (stream (line ∷ lines))
-
--- the places and kinds of cells
-abbrev pub places_of : List Cell → List (Place × Kind)
-places_of cells = map (λ (cell : Cell). (cell.place, cell.kind)) cells

@@ -7,7 +7,8 @@ use Rattle.fj_value.specs.declared.value.Value.{Value}
 use Rattle.fj_value.specs.declared.condition.Condition.{Condition}
 use Rattle.fj_value.specs.declared.condition.Condition.TheVariants.{Fine}
 use Rattle.fj_list.specs.ListText.{mark_of, listed}
-use Rattle.fj_list.specs.ListInput.{kind_at, with_value, list_input}
+use Rattle.fj_list.specs.ListInput.{list_input}
+use Rattle.fj_moved.specs.Cells.{kind_at, with_value}
 
 -- each item's cell has the kind of its value
 abbrev pub AreOfKinds : List Cell → List ℕ → List Value → Type 0

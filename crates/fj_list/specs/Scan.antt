@@ -2,7 +2,8 @@
 use Rattle.std.specs.Prelude.{◌≡◌, ℕ, ◌≤◌, ◌-◌, Bool, true, false, List, [], ◌∷◌, length, take, drop, Option, Some, None}
 use Rattle.fj_value.specs.declared.condition.Condition.{Condition}
 use Rattle.fj_list.specs.Stream.{Stream, stream, records_behind}
-use Rattle.fj_list.specs.ListInput.{Split, value, stopped, closed, delimited, with_front, with_value, Outcome, token_at, repeated, constant_at}
+use Rattle.fj_list.specs.ListInput.{Split, value, stopped, closed, delimited, with_front, Outcome, token_at, repeated, constant_at}
+use Rattle.fj_moved.specs.Cells.{with_value}
 use Rattle.fj_value.specs.declared.value.Cell.{Cell}
 use Rattle.fj_list.specs.declared.constant.Read.{Read}
 use Rattle.fj_list.specs.declared.constant.Read.TheVariants as read

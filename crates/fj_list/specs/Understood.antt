@@ -9,7 +9,8 @@ use Rattle.fj_list.specs.declared.constant.Read.{Read}
 use Rattle.fj_list.specs.declared.constant.Read.TheVariants as read
 use Rattle.fj_list.specs.Stream.{stream}
 use Rattle.fj_list.specs.Constant.{read_as}
-use Rattle.fj_list.specs.ListInput.{kind_at, with_value, list_input}
+use Rattle.fj_list.specs.ListInput.{list_input}
+use Rattle.fj_moved.specs.Cells.{kind_at, with_value}
 use Rattle.fj_list.specs.Grammar.{Given, Finish, at_records_end, at_slash, at_no_value, IsListText}
 
 -- a constant or a null value for one item

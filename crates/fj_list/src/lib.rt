@@ -2,12 +2,8 @@
 #![tactic(auto)]
 
 mod constant;
-mod elements;
-mod items;
 mod laws;
-mod load;
 mod memory_records;
-mod moved;
 mod read;
 mod records;
 mod row;
@@ -17,18 +13,14 @@ mod split;
 mod write;
 
 pub use constant::{Form, Read, number, read_as};
-pub use elements::{Element, Elements, Owned, any_undefined};
-pub use items::{Item, OutputItems, Run, Values};
 pub use laws::{
     cells_keep_kinds, constants_are_of_kind, constants_may_be_cut, integers_are_read,
     records_are_listed, records_are_looked_at_as_needed, records_are_unique,
     records_break_where_full, text_has_a_meaning, text_has_one_meaning, text_is_read_as_its_values,
     values_are_read_again,
 };
-pub use load::{Load, Shape, undefine};
 pub use memory_records::MemoryRecords;
-pub use moved::{Cells, GroupMember, Moved, Order, Row};
-pub use read::{define, read_list};
+pub use read::read_list;
 pub use records::{More, Records, next_line};
 pub use scan::{
     blanks_width, digits_width, ends_constant, is_blank, is_mark, is_separator, text_width,

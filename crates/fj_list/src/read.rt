@@ -1,18 +1,19 @@
 // List-directed input.
-ghost use Rattle.std.specs.Prelude.{◌≡◌, ◌<◌, ◌≤◌, ◌↔◌, length, map, All, IfOk, true};
+ghost use Rattle.std.specs.Prelude.{◌≡◌, ◌<◌, ◌≤◌, ◌↔◌, length, All, IfOk, true};
 ghost use Rattle.fj_outside.specs.Faults.{Rose};
-ghost use Rattle.fj_list.specs.Moved.{IsOrdered};
+ghost use Rattle.fj_moved.specs.Moved.{IsOrdered};
 ghost use Rattle.fj_list.specs.Constant.{read_as};
-ghost use Rattle.fj_list.specs.ListInput.{condition_of, items_read, list_input, kind_at, with_value, places_of};
+ghost use Rattle.fj_list.specs.ListInput.{condition_of, items_read, list_input};
+ghost use Rattle.fj_moved.specs.Cells.{kind_at, places_of};
 ghost use Rattle.fj_list.specs.Scan.{IsSound, ahead, constant_of, Serves, IsOutcome};
 
 use crate::constant::{Read, read_as};
-use crate::moved::{Cells, Moved};
 use crate::records::Records;
 use crate::scan::Scan;
 use crate::split::{advance, supply};
+use fj_moved::{Cells, Moved, define};
 use fj_outside::Stop;
-use fj_value::{Cell, Condition, EditModes, Kind, Value};
+use fj_value::{Condition, EditModes, Kind};
 use std::alloc::{AllocError, Global};
 
 fn kind_at(cells: &Cells, at: u32) -> Kind
@@ -20,19 +21,6 @@ fn kind_at(cells: &Cells, at: u32) -> Kind
     ensures { result ≡ kind_at cells.now at }
 {
     cells.as_slice()[at as usize].kind
-}
-
-/// Gives a value to a cell.
-pub fn define(cells: &mut Cells, at: usize, value: Value)
-    requires { at < length cells.old }
-    ensures value { cells.new ≡ with_value cells.old at value }
-    ensures places { places_of cells.new ≡ places_of cells.old }
-    ensures count { length cells.new ≡ length cells.old }
-{
-    let cell = &cells.as_slice()[at];
-    let place = cell.place;
-    let kind = cell.kind;
-    cells.replace(at, Cell { place, kind, value });
 }
 
 /// Serves the constant at hand to an item, or answers the condition where its characters are no value of the item's

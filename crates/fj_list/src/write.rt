@@ -3,16 +3,15 @@ ghost use Rattle.std.specs.Prelude.{◌≡◌, ◌∷◌, ◌+◌, ◌≤◌, �
 ghost use Rattle.fj_value.specs.declared.value.Value.{Value as AnyValue};
 ghost use Rattle.fj_line.specs.Actions.{carried_out, put, end_record};
 ghost use Rattle.fj_line.specs.Page.{at_hand, IsIn, IsAtEnd, Keeps, Carries};
-ghost use Rattle.fj_list.specs.Items.{items_left, items_of, values_in};
+ghost use Rattle.fj_moved.specs.Items.{items_left, items_of, values_in};
 ghost use Rattle.fj_list.specs.ListText.{gap, is_characters, listed, shown, text_of};
 ghost use Rattle.fj_list.specs.Listing.{next_text, width_behind, texts_behind, list_texts, list_actions};
 ghost use Rattle.fj_list.specs.ReadAgain.{AreReadAgain};
 
-use crate::items::OutputItems;
-use crate::moved::Moved;
 use crate::row::write_integers;
 use crate::shown::{is_characters, push_next, push_value};
 use fj_line::{Page, Unwritten};
+use fj_moved::{Moved, OutputItems};
 use fj_value::{EditModes, Text, Value};
 use std::alloc::{AllocError, Global};
 

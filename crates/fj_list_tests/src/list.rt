@@ -1,9 +1,10 @@
 // Tables of list-directed text, and records that fail.
 ghost use Rattle.std.specs.Prelude.{◌≡◌, true};
-ghost use Rattle.fj_list.specs.Moved.{IsOrdered};
+ghost use Rattle.fj_moved.specs.Moved.{IsOrdered};
 
 use crate::given::{initial, kind_of, records_of};
-use fj_list::{MemoryRecords, More, Moved, Records, read_list, write_list};
+use fj_list::{MemoryRecords, More, Records, read_list, write_list};
+use fj_moved::Moved;
 use fj_outside::Stop;
 use fj_value::{Cell, Condition, Delim, EditModes, Items, Kind, Place, Text, Value};
 use std::alloc::{AllocError, Global};

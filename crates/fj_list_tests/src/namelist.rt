@@ -3,7 +3,8 @@ ghost use Rattle.std.specs.Prelude.{◌≡◌, true, All, length};
 ghost use Rattle.fj_namelist.specs.GroupText.{IsWithin};
 
 use crate::given::{initial, kind_of, records_of};
-use fj_list::{Cells, GroupMember, MemoryRecords, Moved, Order};
+use fj_list::MemoryRecords;
+use fj_moved::{Cells, GroupMember, Moved, Order};
 use fj_namelist::{read_group, write_group};
 use fj_value::{Cell, Delim, EditModes, Items, Kind, Place, Text, Value};
 use std::alloc::{AllocError, Global};

@@ -12,7 +12,7 @@ use Rattle.fj_statement.specs.declared.deck.Variable.{Variable}
 use Rattle.fj_statement.specs.declared.statement.Transfer.{Transfer}
 use Rattle.fj_statement.specs.declared.statement.Statement.TheVariants as statement
 use Rattle.fj_meaning.specs.Transfers.{moved_by, spec_of, layout_of, unless_halted, halt_behind, unless_refused, on_unit, transfer_at}
-use Rattle.fj_list.specs.declared.moved.Moved.{Moved}
+use Rattle.fj_moved.specs.declared.moved.Moved.{Moved}
 use Rattle.fj_meaning.specs.State.{State, Unit, found, with_unit}
 use Rattle.fj_meaning.specs.Statement.{own}
 use Rattle.fj_meaning.specs.UnitLaws.{joined, connections, later, at_once}

@@ -17,7 +17,7 @@ use Rattle.fj_statement.specs.declared.unit.InternalFile.{InternalFile}
 use Rattle.fj_statement.specs.declared.unit.UnitRef.{UnitRef}
 use Rattle.fj_statement.specs.declared.unit.UnitRef.TheVariants as unit
 use Rattle.fj_statement.specs.Units.{is_outside}
-use Rattle.fj_list.specs.declared.moved.Moved.{Moved}
+use Rattle.fj_moved.specs.declared.moved.Moved.{Moved}
 use Rattle.fj_control.specs.Steps.{Given}
 use Rattle.fj_connect.specs.Connection.{Connection}
 use Rattle.fj_connect.specs.Opening.{opened_file}

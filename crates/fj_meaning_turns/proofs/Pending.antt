@@ -5,7 +5,7 @@ use Rattle.fj_value.specs.declared.condition.Condition.{Condition}
 use Rattle.fj_value.specs.declared.condition.Condition.TheVariants.{Fine, EndOfFile, EndOfRecord, Error}
 use Rattle.fj_statement.specs.declared.unit.UnitRef.{UnitRef}
 use Rattle.fj_statement.specs.declared.unit.UnitRef.TheVariants as unit
-use Rattle.fj_list.specs.declared.moved.Moved.{Moved}
+use Rattle.fj_moved.specs.declared.moved.Moved.{Moved}
 use Rattle.fj_control.specs.Steps.{Given}
 use Rattle.fj_statement.specs.declared.deck.Variable.{Variable}
 use Rattle.fj_statement.specs.declared.statement.Statement.TheVariants as statement

@@ -35,8 +35,9 @@ use Rattle.fj_namelist.specs.declared.token.Token.{Token}
 use Rattle.fj_namelist.specs.declared.token.Token.TheVariants as token
 use Rattle.fj_namelist.specs.declared.token.State.TheVariants.{Between, InWord, Behind}
 use Rattle.fj_namelist.specs.Tokens.{Lexed, lexed, stepped, at_record_end, with_tokens, line_lexed, Group, lines_lexed, more_lexed, behind_line, is_done, marked}
-use Rattle.fj_list.specs.declared.moved.GroupMember.{GroupMember}
-use Rattle.fj_list.specs.ListInput.{is_separator, is_mark, with_value, Outcome}
+use Rattle.fj_moved.specs.declared.moved.GroupMember.{GroupMember}
+use Rattle.fj_list.specs.ListInput.{is_separator, is_mark, Outcome}
+use Rattle.fj_moved.specs.Cells.{with_value}
 use Rattle.fj_namelist.specs.Names.{Designator, designator, subscript_in, with_subscript, member_of, same_name, repeat_in, behind_star}
 use Rattle.fj_namelist.specs.GroupText.{parting, continued, name_shown, member_written, members_written, values_of}
 use Rattle.fj_namelist.specs.GroupReadAgain.{IsName, AreOfKind, AreWritten, IsAmong, ShareCells, with_values_from, with_members, GroupsAreReadAgain}

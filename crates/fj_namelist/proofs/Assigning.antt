@@ -13,13 +13,14 @@ use Rattle.fj_value.specs.declared.kind.Kind.TheVariants.{Int4, Int8, Logical, C
 use Rattle.fj_value.specs.declared.value.Cell.{Cell}
 use Rattle.fj_value.specs.declared.condition.Condition.{Condition}
 use Rattle.fj_value.specs.declared.condition.Condition.TheVariants.{Fine, Error}
-use Rattle.fj_list.specs.declared.moved.GroupMember.{GroupMember}
+use Rattle.fj_moved.specs.declared.moved.GroupMember.{GroupMember}
 use Rattle.fj_list.specs.declared.constant.Form.{Form}
 use Rattle.fj_list.specs.declared.constant.Form.TheVariants.{Null}
 use Rattle.fj_list.specs.declared.constant.Read.{Read}
 use Rattle.fj_list.specs.declared.constant.Read.TheVariants as read
 use Rattle.fj_list.specs.Stream.{Stream, records_behind, is_blank}
-use Rattle.fj_list.specs.ListInput.{is_mark, with_value}
+use Rattle.fj_list.specs.ListInput.{is_mark}
+use Rattle.fj_moved.specs.Cells.{with_value}
 use Rattle.fj_list.specs.Grammar as grammar
 use Rattle.fj_list.specs.Grammar.{Given, given, separator_of, IsBlank, Item, Finish, at_records_end, at_slash}
 use Rattle.fj_list.specs.Understood.{Constant, constants, end_of}

@@ -9,7 +9,7 @@ use Rattle.std.specs.Str.{str_to_ascii_uppercase}
 use Rattle.fj_value.specs.declared.edit.EditModes.{EditModes}
 use Rattle.fj_value.specs.declared.value.Cell.{Cell}
 use Rattle.fj_value.specs.declared.value.Value.{Value}
-use Rattle.fj_list.specs.declared.moved.GroupMember.{GroupMember}
+use Rattle.fj_moved.specs.declared.moved.GroupMember.{GroupMember}
 use Rattle.fj_list.specs.ListText.{shown, text_of}
 use Rattle.fj_namelist.specs.GroupText.{parting, continued, text_behind, name_shown, member_written, members_written, values_of}
 

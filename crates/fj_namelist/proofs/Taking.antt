@@ -3,7 +3,7 @@ use Rattle.std.proofs.Common.{◌≡◌, ℕ, zero, suc, ◌+◌, ◌-◌, ◌<�
 use Rattle.std.specs.Prelude.{All}
 use Rattle.std.proofs.lemmas.List.{drop_more}
 use Rattle.fj_value.specs.declared.value.Cell.{Cell}
-use Rattle.fj_list.specs.declared.moved.GroupMember.{GroupMember}
+use Rattle.fj_moved.specs.declared.moved.GroupMember.{GroupMember}
 use Rattle.fj_namelist.specs.declared.token.Token.{Token}
 use Rattle.fj_namelist.specs.declared.token.Token.TheVariants as token
 use Rattle.fj_namelist.specs.declared.place.Place.{Place}

@@ -9,9 +9,10 @@ use Rattle.fj_list.specs.declared.constant.Form.{Form}
 use Rattle.fj_list.specs.declared.constant.Form.TheVariants.{Null, Undelimited, Delimited}
 use Rattle.fj_list.specs.declared.constant.Read.{Read}
 use Rattle.fj_list.specs.declared.constant.Read.TheVariants as read
-use Rattle.fj_list.specs.declared.moved.GroupMember.{GroupMember}
+use Rattle.fj_moved.specs.declared.moved.GroupMember.{GroupMember}
 use Rattle.fj_list.specs.Constant.{read_as}
-use Rattle.fj_list.specs.ListInput.{with_value, Outcome}
+use Rattle.fj_list.specs.ListInput.{Outcome}
+use Rattle.fj_moved.specs.Cells.{with_value}
 use Rattle.fj_namelist.specs.declared.token.Token.{Token}
 use Rattle.fj_namelist.specs.declared.token.Token.TheVariants as token
 use Rattle.fj_namelist.specs.declared.token.State.TheVariants.{Between}

@@ -9,9 +9,9 @@ use Rattle.fj_value.specs.declared.value.Cell.{Cell}
 use Rattle.fj_value.specs.declared.value.Value.{Value}
 use Rattle.fj_value.specs.declared.condition.Condition.{Condition}
 use Rattle.fj_value.specs.declared.condition.Condition.TheVariants.{Fine}
-use Rattle.fj_list.specs.declared.moved.GroupMember.{GroupMember}
+use Rattle.fj_moved.specs.declared.moved.GroupMember.{GroupMember}
 use Rattle.fj_list.specs.ListText.{mark_of}
-use Rattle.fj_list.specs.ListInput.{with_value}
+use Rattle.fj_moved.specs.Cells.{with_value}
 use Rattle.fj_namelist.specs.Names.{same_name}
 use Rattle.fj_namelist.specs.GroupText.{values_of, IsWithin, group_written}
 use Rattle.fj_namelist.specs.GroupInput.{elements, group_input}

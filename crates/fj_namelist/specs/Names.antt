@@ -5,7 +5,7 @@ use Rattle.std.specs.Option.{option_map}
 use Rattle.std.specs.Str.{str_eq_ignore_ascii_case}
 use Rattle.fj_value.specs.Digits.{number_in}
 use Rattle.fj_list.specs.ListInput.{is_no_digit}
-use Rattle.fj_list.specs.declared.moved.GroupMember.{GroupMember}
+use Rattle.fj_moved.specs.declared.moved.GroupMember.{GroupMember}
 
 -- names are equal but for the case of letters
 abbrev pub same_name : List ℕ → List ℕ → Bool

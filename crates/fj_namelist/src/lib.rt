@@ -11,7 +11,7 @@ mod read;
 mod token;
 mod write;
 
-pub use fj_list::GroupMember;
+pub use fj_moved::GroupMember;
 pub use laws::{
     elements_are_named, group_text_has_one_meaning, group_text_is_read, groups_are_read_again,
     groups_need_headings, members_break_where_full,

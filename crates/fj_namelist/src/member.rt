@@ -2,7 +2,7 @@
 ghost use Rattle.std.specs.Prelude.{◌≡◌, ◌+◌, ◌<◌, ◌≤◌, length, IfOk, List, ℕ, false};
 ghost use Rattle.std.specs.Option.{option_copied};
 ghost use Rattle.fj_value.specs.declared.value.Cell.{Cell};
-ghost use Rattle.fj_list.specs.ListInput.{places_of};
+ghost use Rattle.fj_moved.specs.Cells.{places_of};
 ghost use Rattle.fj_namelist.specs.Names.{member_of, behind_star, repeat_in};
 ghost use Rattle.fj_namelist.specs.GroupInput.{Result, elements, element_of, place_of, constant_read, given_to, filled, word_given, no_value, separated, value_taken, due_condition, taken};
 ghost use Rattle.fj_namelist.specs.Walker.{goes, fills, takes, IsPlace, IsTaken};
@@ -10,7 +10,8 @@ ghost use Rattle.fj_namelist.specs.Walker.{goes, fills, takes, IsPlace, IsTaken}
 use crate::names::{behind_star, repeat_in, same_name};
 use crate::place::{Elements, Filled, Place, Taken};
 use crate::token::Token;
-use fj_list::{Cells, Form, GroupMember, Read, define, read_as};
+use fj_list::{Form, Read, read_as};
+use fj_moved::{Cells, GroupMember, define};
 use fj_value::{Condition, Kind};
 use std::alloc::{AllocError, Global};
 

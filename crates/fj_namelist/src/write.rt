@@ -7,7 +7,8 @@ ghost use Rattle.fj_list.specs.ListText.{text_of};
 ghost use Rattle.fj_namelist.specs.GroupText.{parting, text_behind, name_shown, member_written, members_written, values_of, group_written, IsWithin, values_in};
 ghost use Rattle.fj_namelist.specs.GroupReadAgain.{IsReadAgain};
 
-use fj_list::{COLUMNS, GroupMember, push_value};
+use fj_list::{COLUMNS, push_value};
+use fj_moved::GroupMember;
 use fj_value::{Cell, EditModes, Text, Value};
 use std::alloc::{AllocError, Global};
 

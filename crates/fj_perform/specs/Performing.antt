@@ -1,7 +1,7 @@
 -- What a transfer comes to, and what it leaves of its statement.
 use Rattle.std.specs.Prelude.{◌≡◌}
 use Rattle.fj_value.specs.declared.condition.Condition.{Condition}
-use Rattle.fj_list.specs.ListInput.{places_of}
+use Rattle.fj_moved.specs.Cells.{places_of}
 use Rattle.fj_connect.specs.Connection.{Connection}
 use Rattle.fj_transfer.specs.declared.transfer.Transfer.{Transfer}
 use Rattle.fj_transfer.specs.Transfer.{Done}

@@ -4,8 +4,8 @@ ghost use Rattle.fj_value.specs.declared.condition.Condition.TheVariants.{Fine};
 ghost use Rattle.fj_outside.specs.Faults.{Rose};
 ghost use Rattle.fj_span.specs.Change.{KeepsUpToChange};
 ghost use Rattle.fj_modes.specs.Words.{same_access};
-ghost use Rattle.fj_list.specs.ListInput.{places_of};
-ghost use Rattle.fj_list.specs.Moved.{IsOrdered};
+ghost use Rattle.fj_moved.specs.Cells.{places_of};
+ghost use Rattle.fj_moved.specs.Moved.{IsOrdered};
 ghost use Rattle.fj_namelist.specs.GroupText.{IsWithin};
 ghost use Rattle.fj_control.specs.Steps.{steps};
 ghost use Rattle.fj_connect.specs.Linked.{connection_of};
@@ -22,8 +22,8 @@ ghost use Rattle.fj_perform.specs.Front.{started, place_of, IsStart};
 use crate::start::{Start, is_open};
 use fj_connect::Connection;
 use fj_format::Format;
-use fj_list::{Load, Moved};
 use fj_modes::Access;
+use fj_moved::{Load, Moved};
 use fj_outside::{FileStore, Stop};
 use fj_transfer::{
     Layout, Performed, TransferSpec, read_direct, read_grouped, read_lines, read_listed,

@@ -4,8 +4,8 @@ ghost use Rattle.fj_value.specs.declared.condition.Condition.TheVariants.{Fine};
 ghost use Rattle.fj_outside.specs.Faults.{Rose};
 ghost use Rattle.fj_span.specs.Change.{KeepsUpToChange};
 ghost use Rattle.fj_modes.specs.Words.{same_access};
-ghost use Rattle.fj_list.specs.declared.moved.Moved.{Moved as MovedValues};
-ghost use Rattle.fj_list.specs.Moved.{IsOrdered};
+ghost use Rattle.fj_moved.specs.declared.moved.Moved.{Moved as MovedValues};
+ghost use Rattle.fj_moved.specs.Moved.{IsOrdered};
 ghost use Rattle.fj_connect.specs.Linked.{connection_of};
 ghost use Rattle.fj_transfer.specs.Change.{changed};
 ghost use Rattle.fj_transfer.specs.Printing.{control_of, IsRecords};
@@ -14,8 +14,8 @@ ghost use Rattle.fj_perform.specs.Front.{started, IsStart, IsNamed};
 
 use crate::start::Start;
 use fj_connect::Connection;
-use fj_list::Load;
 use fj_modes::Access;
+use fj_moved::Load;
 use fj_outside::{FileStore, Stop};
 use fj_transfer::{
     Layout, Transfer, body_of, frame_of, write_direct, write_lines, write_numbered,

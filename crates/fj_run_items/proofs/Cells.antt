@@ -7,8 +7,8 @@ use Rattle.std.proofs.lemmas.List.Folds.{position_or_len_push, prefix_len-append
 use Rattle.std.proofs.lemmas.List.Elements.{All-nil, All-cons, All-push}
 use Rattle.fj_value.specs.declared.place.Place.{Place}
 use Rattle.fj_value.specs.declared.value.Cell.{Cell}
-use Rattle.fj_list.specs.Moved.{IsOrdered}
-use Rattle.fj_list.specs.declared.moved.Moved.{Moved}
+use Rattle.fj_moved.specs.Moved.{IsOrdered}
+use Rattle.fj_moved.specs.declared.moved.Moved.{Moved}
 use Rattle.fj_store.specs.Places.{same_place, counted_from}
 use Rattle.fj_store.specs.Variables.{is_at, with_item, moved_from, moved_of}
 use Rattle.fj_store.proofs.CopyLemmas.{AreFree}

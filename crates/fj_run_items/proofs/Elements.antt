@@ -8,8 +8,8 @@ use Rattle.fj_control.specs.Steps.{Given}
 use Rattle.fj_internal.specs.Internal.{IsInput, IsOutput, Put, Taken, characters_of, read_inside, written_inside}
 use Rattle.fj_internal.specs.OneElement.{PutsOne, TakesOne}
 use Rattle.fj_internal.specs.declared.one.One.{One}
-use Rattle.fj_list.specs.Items.{Output, items_of}
-use Rattle.fj_list.specs.declared.moved.Moved.{Moved}
+use Rattle.fj_moved.specs.Items.{Output, items_of}
+use Rattle.fj_moved.specs.declared.moved.Moved.{Moved}
 use Rattle.fj_statement.specs.declared.deck.Variable.{Variable}
 use Rattle.fj_statement.specs.declared.statement.Control.{Control}
 use Rattle.fj_statement.specs.declared.statement.Control.TheVariants as control

@@ -8,7 +8,7 @@ use Rattle.std.proofs.lemmas.List.Sums.{sum_by_push, sum_by-take-le}
 use Rattle.fj_value.specs.declared.condition.Condition.{Condition}
 use Rattle.fj_value.specs.declared.value.Cell.{Cell}
 use Rattle.fj_line.specs.Actions.{Action}
-use Rattle.fj_list.specs.declared.moved.Moved.{Moved}
+use Rattle.fj_moved.specs.declared.moved.Moved.{Moved}
 use Rattle.fj_namelist.specs.GroupText.{IsWithin}
 use Rattle.fj_transfer.specs.Moving as moving
 use Rattle.fj_transfer.specs.Printing.{Printed, printed_by, open_count, IsOfItems as IsLayoutOfItems}

@@ -4,7 +4,7 @@ use Rattle.fj_value.specs.declared.condition.Condition.{Condition}
 use Rattle.fj_value.specs.declared.value.Cell.{Cell}
 use Rattle.fj_control.specs.Steps.{Given}
 use Rattle.fj_internal.specs.Internal.{read_inside, written_inside}
-use Rattle.fj_list.specs.declared.moved.Moved.{Moved}
+use Rattle.fj_moved.specs.declared.moved.Moved.{Moved}
 use Rattle.fj_statement.specs.declared.deck.Variable.{Variable}
 use Rattle.fj_statement.specs.declared.statement.Statement.TheVariants.{Transfer}
 use Rattle.fj_statement.specs.declared.statement.Transfer.{Transfer as Stated}

@@ -13,7 +13,7 @@ use Rattle.fj_value.specs.declared.value.Value.TheVariants.{Undefined}
 use Rattle.fj_bay.specs.Jobs.{Moving, items_for}
 use Rattle.fj_control.specs.Steps.{Given}
 use Rattle.fj_meaning_jobs.specs.Acting.{moving_of}
-use Rattle.fj_list.specs.declared.moved.Moved.{Moved}
+use Rattle.fj_moved.specs.declared.moved.Moved.{Moved}
 use Rattle.fj_statement.specs.declared.deck.Variable.{Variable}
 use Rattle.fj_statement.specs.declared.statement.Operand.{Operand}
 use Rattle.fj_statement.specs.declared.statement.Control.{Control}

@@ -1,6 +1,6 @@
 -- What a WRITE on `*` prints.
 use Rattle.std.specs.Prelude.{length, All}
-use Rattle.fj_list.specs.declared.moved.Moved.{Moved}
+use Rattle.fj_moved.specs.declared.moved.Moved.{Moved}
 use Rattle.fj_namelist.specs.GroupText.{IsWithin}
 use Rattle.fj_statement.specs.declared.statement.Control.{Control}
 use Rattle.fj_statement.specs.declared.statement.Control.TheVariants as control

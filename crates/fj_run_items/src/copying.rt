@@ -10,7 +10,7 @@ ghost use Rattle.fj_run_items.specs.Kinds.{kinds_of};
 
 use crate::gathering::{gather, only_run};
 use crate::lost::Lost;
-use fj_list::{Load, Moved};
+use fj_moved::{Load, Moved};
 use fj_statement::{Transfer, Variables};
 use fj_store::{Run, Store};
 use fj_value::Place;

@@ -1,7 +1,7 @@
 // What a transfer or an INQUIRE gives back to the variables.
 ghost use Rattle.std.specs.Prelude.{◌≡◌, [], List, if◌then◌else◌};
 ghost use Rattle.std.specs.Option.{option_map_or};
-ghost use Rattle.fj_list.specs.declared.moved.Moved.{Moved};
+ghost use Rattle.fj_moved.specs.declared.moved.Moved.{Moved};
 ghost use Rattle.fj_meaning.specs.Items.{given_back, kind_of};
 ghost use Rattle.fj_meaning.specs.Telling.{count_for, with_size};
 ghost use Rattle.fj_statement.specs.declared.deck.Variable.{Variable};
@@ -10,7 +10,7 @@ ghost use Rattle.fj_store.specs.Storage.{values_of};
 ghost use Rattle.fj_value.specs.declared.place.Place.{Place};
 ghost use Rattle.fj_run_items.specs.Kinds.{kinds_of};
 
-use fj_list::{Cells, Load};
+use fj_moved::{Cells, Load};
 use fj_statement::Variables;
 use fj_store::Store;
 use fj_value::{Place, Value};

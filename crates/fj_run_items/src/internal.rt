@@ -20,7 +20,7 @@ use crate::lost::Lost;
 use crate::star::is_of_items;
 use crate::taking::moving;
 use fj_internal::{read_internal, write_internal};
-use fj_list::Cells;
+use fj_moved::Cells;
 use fj_statement::{InternalFile, Transfer, Variables};
 use fj_store::{Run, Store};
 use fj_transfer::Transfer as Moving;

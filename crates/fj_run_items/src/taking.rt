@@ -1,7 +1,7 @@
 // A READ or WRITE as a job: its items are moved or copied out of the variables.
 ghost use Rattle.std.specs.Prelude.{◌≡◌, ◌≢◌, length, map, true, None, unwrap_or, List, All, Err, IfOk, OnOk};
 ghost use Rattle.std.specs.Option.{option_map_or};
-ghost use Rattle.fj_list.specs.declared.moved.Moved.{Moved as MovedCells};
+ghost use Rattle.fj_moved.specs.declared.moved.Moved.{Moved as MovedCells};
 ghost use Rattle.fj_bay.specs.Jobs.{items_for};
 ghost use Rattle.fj_bay.specs.Plain.{moving_of as job_of};
 ghost use Rattle.fj_namelist.specs.GroupText.{IsWithin};
@@ -24,7 +24,7 @@ use crate::lost::Lost;
 use crate::number::number_given;
 use crate::star::edit_of;
 use crate::undefining::undefine_size;
-use fj_list::{Load, Moved};
+use fj_moved::{Load, Moved};
 use fj_statement::{Transfer, Variables};
 use fj_store::{Piece, Run, Store};
 use fj_transfer::{Transfer as Moving, TransferSpec};

@@ -2,7 +2,7 @@
 use Rattle.std.specs.Prelude.{List, [], map, Option}
 use Rattle.std.specs.Option.{option_map, option_map_or}
 use Rattle.fj_value.specs.declared.value.Cell.{Cell}
-use Rattle.fj_list.specs.declared.moved.Moved.{Moved}
+use Rattle.fj_moved.specs.declared.moved.Moved.{Moved}
 use Rattle.fj_book.specs.Prohibitions.{Holder}
 use Rattle.fj_store.specs.Places.{places_in}
 use Rattle.fj_meaning.specs.State.{Entry, Tell as PlainTell}

@@ -12,7 +12,7 @@ ghost use Rattle.fj_run_pending.specs.Plain.{cells_of, entry_of, entries, tells_
 use crate::held::{Held, Told};
 use crate::pick::condition_of;
 use crate::tell::Tell;
-use fj_list::Load;
+use fj_moved::Load;
 use fj_store::Store;
 use fj_value::{Condition, Items, Place, Value};
 use std::alloc::AllocError;

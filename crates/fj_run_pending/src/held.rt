@@ -1,6 +1,6 @@
 // A pending transfer, with what its job brought once that was told.
 
-use fj_list::Load;
+use fj_moved::Load;
 use fj_store::Runs;
 use fj_value::{Condition, Place, Tag};
 

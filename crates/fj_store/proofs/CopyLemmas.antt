@@ -14,8 +14,8 @@ use Rattle.fj_value.specs.declared.value.Cell.{Cell}
 use Rattle.fj_value.specs.declared.value.Value.{Value}
 use Rattle.fj_value.specs.declared.value.Value.TheVariants.{Undefined}
 use Rattle.std.specs.Prelude.{unwrap_or}
-use Rattle.fj_list.specs.Load.{row_cells}
-use Rattle.fj_list.specs.declared.moved.Moved.{Moved}
+use Rattle.fj_moved.specs.Load.{row_cells}
+use Rattle.fj_moved.specs.declared.moved.Moved.{Moved}
 use Rattle.fj_store.specs.declared.piece.Piece.{Piece}
 use Rattle.fj_store.specs.declared.piece.Piece.TheVariants.{Places, Own}
 use Rattle.fj_store.specs.declared.run.Run.{Run}
@@ -29,7 +29,7 @@ use Rattle.fj_store.specs.Tables.{element_at, with_element, with_cells}
 use Rattle.fj_store.specs.Variables.{is_at, with_item, moved_from, moved_of}
 use Rattle.fj_store.specs.Storage.{Storage, storage, value_in, value_at, cell_at}
 use Rattle.fj_store.specs.Taking.{AreUnused, IsMarkedAt, cell_read, value_read, values_in, home}
-use Rattle.fj_list.proofs.LoadLemmas.{row_more}
+use Rattle.fj_moved.proofs.LoadLemmas.{row_more}
 use Rattle.fj_store.proofs.TableLemmas.{places_tell, mapped_at, mapped_with, with_itself, with_missing, with_twice, same_fields}
 use Rattle.fj_store.proofs.StoreLemmas.{cells_more, stored_read}
 use Rattle.fj_store.proofs.RunLemmas.{run_long}

@@ -9,11 +9,11 @@ use Rattle.fj_value.specs.declared.place.Place.{Place}
 use Rattle.fj_value.specs.declared.value.Cell.{Cell}
 use Rattle.fj_value.specs.declared.value.Value.{Value}
 use Rattle.fj_value.specs.declared.value.Value.TheVariants.{Undefined}
-use Rattle.fj_list.specs.declared.moved.Moved.{Moved}
+use Rattle.fj_moved.specs.declared.moved.Moved.{Moved}
 use Rattle.fj_store.specs.Kinds.{kind_at, of_kind}
 use Rattle.fj_store.specs.Laws.{AreOfKinds}
-use Rattle.fj_list.specs.Moved.{AreDistinct}
-use Rattle.fj_list.proofs.MovedLemmas.{same_back, parts_false, distinct_more}
+use Rattle.fj_moved.specs.Moved.{AreDistinct}
+use Rattle.fj_moved.proofs.MovedLemmas.{same_back, parts_false, distinct_more}
 use Rattle.fj_store.specs.Places.{same_place, is_among}
 use Rattle.fj_store.specs.Tables.{element_at, with_element, with_cells}
 use Rattle.fj_store.specs.Variables.{is_at, with_item, moved_from}

@@ -10,7 +10,7 @@ use Rattle.fj_value.specs.declared.place.Place.{Place}
 use Rattle.fj_value.specs.declared.value.Cell.{Cell}
 use Rattle.fj_value.specs.declared.value.Value.{Value}
 use Rattle.fj_value.specs.declared.value.Value.TheVariants.{Undefined}
-use Rattle.fj_list.specs.Load.{row_cells}
+use Rattle.fj_moved.specs.Load.{row_cells}
 use Rattle.fj_store.specs.declared.slot.Mark.{Mark}
 use Rattle.fj_store.specs.declared.slot.Mark.TheVariants as marked
 use Rattle.fj_store.specs.declared.slot.Slot.{Slot}

@@ -14,7 +14,7 @@ use Rattle.fj_value.specs.declared.place.Place.{Place}
 use Rattle.fj_value.specs.declared.value.Cell.{Cell}
 use Rattle.fj_value.specs.declared.value.Value.{Value}
 use Rattle.fj_value.specs.declared.value.Value.TheVariants.{Undefined}
-use Rattle.fj_list.specs.declared.moved.Moved.{Moved}
+use Rattle.fj_moved.specs.declared.moved.Moved.{Moved}
 use Rattle.fj_store.specs.declared.run.Run.{Run}
 use Rattle.fj_store.specs.declared.slot.Slot.{Slot}
 use Rattle.fj_store.specs.declared.slot.Slot.TheVariants.{Out}
@@ -26,7 +26,7 @@ use Rattle.fj_store.specs.Variables.{is_at, with_item, moved_from, moved_of}
 use Rattle.fj_store.specs.Storage.{Storage, storage, value_in, cell_at, emptied, without}
 use Rattle.fj_store.specs.declared.taken.Taken.{Taken}
 use Rattle.fj_store.specs.Taking.{Taking, HasRoom, IsMarked, IsMarkedAt, MarkTells, mark_of, cell_read, value_read, values_in, items_in, taking, take_one, take_all, take_runs}
-use Rattle.fj_list.proofs.MovedLemmas.{same_back}
+use Rattle.fj_moved.proofs.MovedLemmas.{same_back}
 use Rattle.fj_store.proofs.TableLemmas.{same_fields, at_same, at_other, places_tell, with_missing, mapped_at, mapped_with}
 
 -- ---- one list of places in place of runs

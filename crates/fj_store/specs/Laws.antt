@@ -4,7 +4,7 @@ use Rattle.fj_value.specs.declared.place.Place.{Place}
 use Rattle.fj_value.specs.declared.value.Cell.{Cell}
 use Rattle.fj_value.specs.declared.value.Value.{Value}
 use Rattle.fj_store.specs.Kinds.{kind_at, of_kind}
-use Rattle.fj_list.specs.Moved.{AreDistinct}
+use Rattle.fj_moved.specs.Moved.{AreDistinct}
 use Rattle.fj_store.specs.Places.{is_among}
 use Rattle.fj_store.specs.Variables.{moved_of}
 use Rattle.fj_store.specs.Storage.{Storage, value_at, cell_at, without, given_back}

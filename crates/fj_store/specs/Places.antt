@@ -3,7 +3,7 @@ use Rattle.std.specs.Prelude.{ℕ, zero, suc, ◌+◌, List, [], ◌∷◌}
 use Rattle.std.specs.List.{flat_map}
 use Rattle.fj_value.specs.declared.place.Place.{Place}
 use Rattle.fj_store.specs.declared.run.Run.{Run}
-pub use Rattle.fj_list.specs.Moved.{same_place, is_among, has_twice}
+pub use Rattle.fj_moved.specs.Moved.{same_place, is_among, has_twice}
 
 -- so many places of a variable from an index on
 abbrev pub counted_from : ℕ → ℕ → ℕ → List Place

@@ -5,8 +5,8 @@ use Rattle.fj_value.specs.declared.place.Place.{Place}
 use Rattle.fj_value.specs.declared.value.Cell.{Cell}
 use Rattle.fj_value.specs.declared.value.Value.{Value}
 use Rattle.fj_value.specs.declared.value.Value.TheVariants as value
-use Rattle.fj_list.specs.declared.moved.Moved.{Moved}
-pub use Rattle.fj_list.specs.Values.{is_undefined}
+use Rattle.fj_moved.specs.declared.moved.Moved.{Moved}
+pub use Rattle.fj_moved.specs.Values.{is_undefined}
 use Rattle.fj_store.specs.Places.{same_place}
 use Rattle.fj_store.specs.Tables.{element_at, with_element, with_cells}
 

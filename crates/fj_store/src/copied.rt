@@ -15,7 +15,7 @@ use crate::run::Run;
 use crate::slot::Slot;
 use crate::slots::Slots;
 use crate::taken::{NO_VARIABLE, Taken, add_item, cell_of, position};
-use fj_list::Moved;
+use fj_moved::Moved;
 use fj_value::{Cell, Items, Kind, Place, Value};
 use std::alloc::{AllocError, Global};
 use std::collections::VecDeque;

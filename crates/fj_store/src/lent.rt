@@ -1,9 +1,9 @@
 // The values of a run, lent where they stand.
 ghost use Rattle.std.specs.Prelude.{◌≡◌, ◌+◌, ◌<◌, length, IfOk};
-ghost use Rattle.fj_list.specs.Items.{items_left, items_of};
+ghost use Rattle.fj_moved.specs.Items.{items_left, items_of};
 
 use crate::copied::copy_row;
-use fj_list::{Elements, Load, OutputItems, Row};
+use fj_moved::{Elements, Load, OutputItems, Row};
 use fj_value::{Kind, Place, Value};
 use std::alloc::{AllocError, Global};
 use std::marker::Model;
@@ -20,8 +20,8 @@ pub struct Lent<'a> {
 impl<'a> Model for Lent<'a> {
     ghost use Rattle.std.specs.Prelude.{length};
     ghost use Rattle.std.specs.List.{range_with_len};
-    ghost use Rattle.fj_list.specs.Load.{row_cells};
-    ghost use Rattle.fj_list.specs.declared.moved.Moved.{Moved as MovedCells};
+    ghost use Rattle.fj_moved.specs.Load.{row_cells};
+    ghost use Rattle.fj_moved.specs.declared.moved.Moved.{Moved as MovedCells};
 
     ghost Value = { MovedCells };
 

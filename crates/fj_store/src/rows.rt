@@ -3,7 +3,7 @@ ghost use Rattle.std.specs.Prelude.{◌≡◌, ◌+◌, ◌<◌, ◌≤◌, ◌�
 ghost use Rattle.std.specs.Option.{option_map, option_to_list};
 ghost use Rattle.fj_value.specs.declared.kind.Kind.{Kind as AnyKind};
 ghost use Rattle.fj_value.specs.declared.value.Value.TheVariants.{Undefined};
-ghost use Rattle.fj_list.specs.Load.{row_cells};
+ghost use Rattle.fj_moved.specs.Load.{row_cells};
 ghost use Rattle.fj_store.specs.Places.{places_of};
 ghost use Rattle.fj_store.specs.Rows.{ArePut, AreTaken, number_of};
 ghost use Rattle.fj_store.specs.Tables.{element_in, row_with};
@@ -15,7 +15,7 @@ use crate::run::Run;
 use crate::slot::Mark;
 use crate::table::{get_in, position_in, put_in};
 use crate::taken::{Taken, add_item, cell_marked};
-use fj_list::Owned;
+use fj_moved::Owned;
 use fj_value::{Cell, Items, Kind, Place, Value};
 use std::collections::VecDeque;
 

@@ -4,7 +4,7 @@ ghost use Rattle.fj_store.specs.Slots.{mark_in, slot_of};
 ghost use Rattle.fj_store.specs.Taking.{mark_of, value_read};
 ghost use Rattle.fj_store.specs.declared.slot.Slot.{Slot as AnySlot};
 
-use fj_list::Element;
+use fj_moved::Element;
 use fj_value::Value;
 use std::mem::size_of;
 

@@ -2,7 +2,7 @@
 ghost use Rattle.std.specs.Prelude.{◌≡◌, ◌<◌, ◌≤◌, true, length, map, replicate, IfSome, IfNone, IfOk, OnOk, OnErr};
 ghost use Rattle.std.specs.List.{list_any};
 ghost use Rattle.std.specs.Option.{option_copied};
-ghost use Rattle.fj_list.specs.Load.{moved_row};
+ghost use Rattle.fj_moved.specs.Load.{moved_row};
 ghost use Rattle.fj_store.specs.Places.{places_of, places_in};
 ghost use Rattle.fj_store.specs.Tables.{with_element, with_cells};
 ghost use Rattle.fj_store.specs.Kinds.{kind_at, of_kind};
@@ -21,7 +21,7 @@ use crate::run::Run;
 use crate::slot::Slot;
 use crate::slots::Slots;
 use crate::taken::{count_of, room_for, take_places};
-use fj_list::{Cells, Load, Moved, Row, Shape, any_undefined};
+use fj_moved::{Cells, Load, Moved, Row, Shape, any_undefined};
 use fj_value::{Cell, Items, Kind, Place, Value};
 use std::alloc::{AllocError, Global};
 use std::collections::VecDeque;

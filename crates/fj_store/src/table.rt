@@ -1,7 +1,7 @@
 // Tables with an element at each place of each variable.
 ghost use Rattle.std.specs.Prelude.{◌≡◌, ◌<◌, suc, ltb, [], ◌∷◌, ◌++◌, true, false, length, map, is_none, Some, None, IfSome, IfNone, IfOk, OnOk, OnErr, slice_get, slice_set};
 ghost use Rattle.std.specs.Borrow.{Lends, sem};
-ghost use Rattle.fj_list.specs.contracts.elements.Owned.{the_row as owned_row};
+ghost use Rattle.fj_moved.specs.contracts.elements.Owned.{the_row as owned_row};
 ghost use Rattle.fj_store.specs.contracts.table.Table.{the_row};
 ghost use Rattle.std.specs.List.{list_any};
 ghost use Rattle.std.specs.Option.{option_copied};
@@ -10,7 +10,7 @@ ghost use Rattle.fj_store.specs.Places.{places_of};
 ghost use Rattle.fj_store.specs.Tables.{element_at, element_in, row_with, with_element};
 
 use crate::run::Run;
-use fj_list::{Element, Elements, Owned};
+use fj_moved::{Element, Elements, Owned};
 use fj_value::Place;
 use std::alloc::{AllocError, Global};
 use std::marker::Model;

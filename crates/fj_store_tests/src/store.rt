@@ -2,7 +2,7 @@
 ghost use Rattle.std.specs.Prelude.{◌≡◌, IfOk};
 ghost use Rattle.fj_store.specs.Pieces.{sizes};
 
-use fj_list::{Load, Moved};
+use fj_moved::{Load, Moved};
 use fj_store::{Piece, Run, Store};
 use fj_value::{Cell, Kind, Place, Value};
 use std::alloc::{AllocError, Global};

@@ -19,7 +19,7 @@ use Rattle.fj_format.proofs.UnfoldingLaws.{written_out-Field, written_out-Group,
 use Rattle.fj_control.specs.Steps.{control, round_of, rounds}
 use Rattle.fj_line.specs.Actions.{AtHand, first_record, output}
 use Rattle.fj_control.specs.Paired.{paired}
-use Rattle.fj_list.specs.Items.{Output}
+use Rattle.fj_moved.specs.Items.{Output}
 use Rattle.fj_list.specs.ListText.{text_of}
 use Rattle.fj_transfer.specs.Explicit.{action_of, ending, explicit_actions}
 

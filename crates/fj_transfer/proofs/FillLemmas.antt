@@ -16,7 +16,7 @@ use Rattle.fj_control.specs.Steps as control
 use Rattle.fj_control.specs.Paired.{parts, paired}
 use Rattle.fj_control.specs.Walk as walk
 use Rattle.fj_control.specs.Walk.{Walk, due}
-use Rattle.fj_list.specs.Items.{Output}
+use Rattle.fj_moved.specs.Items.{Output}
 use Rattle.fj_line.specs.Records.{texts_from, texts_of}
 use Rattle.fj_connect.specs.Connection.{Connection}
 use Rattle.fj_transfer.specs.Explicit.{action_of, explicit_actions}

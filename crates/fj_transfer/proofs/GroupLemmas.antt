@@ -8,7 +8,7 @@ use Rattle.fj_line.specs.declared.unwritten.Unwritten.TheVariants.{Met, Memory}
 use Rattle.fj_line.specs.Actions.{Action, put, end_record, AtHand, carried_out}
 use Rattle.fj_line.specs.Page.{Carries}
 use Rattle.fj_line.proofs.Carrying.{goes_on, stops, went_on, as_well}
-use Rattle.fj_list.specs.declared.moved.GroupMember.{GroupMember}
+use Rattle.fj_moved.specs.declared.moved.GroupMember.{GroupMember}
 use Rattle.fj_namelist.specs.GroupText.{values_in, values_of, member_written}
 use Rattle.fj_transfer.specs.Printing.{record_actions}
 use Rattle.fj_transfer.specs.Writing.{CarriesFirst}

@@ -1,10 +1,10 @@
 -- The facts of a transfer stay where its cells get other values at their places.
 use Rattle.std.proofs.Common.{◌≡◌, ℕ, ◌<◌, ◌^◌, List, length, sym, subst}
 use Rattle.std.specs.Prelude.{All}
-use Rattle.fj_list.proofs.MovedLemmas.{distinct_kept, count_kept}
-use Rattle.fj_list.specs.ListInput.{places_of}
-use Rattle.fj_list.specs.Moved.{AreDistinct, IsOrdered}
-use Rattle.fj_list.specs.declared.moved.Moved.{Moved}
+use Rattle.fj_moved.proofs.MovedLemmas.{distinct_kept, count_kept}
+use Rattle.fj_moved.specs.Cells.{places_of}
+use Rattle.fj_moved.specs.Moved.{AreDistinct, IsOrdered}
+use Rattle.fj_moved.specs.declared.moved.Moved.{Moved}
 use Rattle.fj_namelist.specs.GroupText.{IsWithin}
 use Rattle.fj_transfer.specs.Moving.{members_of}
 use Rattle.fj_transfer.specs.declared.transfer.Layout.{Layout}

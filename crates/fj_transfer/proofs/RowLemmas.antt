@@ -11,7 +11,7 @@ use Rattle.fj_control.specs.Steps.{Given, gives}
 use Rattle.fj_control.specs.Paired.{paired}
 use Rattle.fj_edit_out.specs.Item.{integer_in, with_integer, integers_in}
 use Rattle.fj_edit_out.specs.OutputField.{integer_field, field_of}
-use Rattle.fj_list.specs.Items.{Output, of_kind}
+use Rattle.fj_moved.specs.Items.{Output, of_kind}
 use Rattle.fj_transfer.specs.Explicit.{field_put, item_put, action_of}
 use Rattle.fj_transfer.specs.Writing.{row_of}
 

@@ -13,10 +13,10 @@ use Rattle.fj_value.specs.declared.value.Cell.{Cell}
 use Rattle.fj_value.specs.declared.value.Value.{Value}
 use Rattle.fj_value.specs.declared.value.Value.TheVariants.{Undefined}
 use Rattle.fj_unfrec.specs.Stored.{stored, stored_width, value_of}
-use Rattle.fj_list.specs.ListInput.{kind_at, with_value}
-use Rattle.fj_list.specs.Moved.{value_at}
-use Rattle.fj_list.specs.Load.{row_cells}
-use Rattle.fj_list.proofs.LoadLemmas.{by_number}
+use Rattle.fj_moved.specs.Cells.{kind_at, with_value}
+use Rattle.fj_moved.specs.Moved.{value_at}
+use Rattle.fj_moved.specs.Load.{row_cells}
+use Rattle.fj_moved.proofs.LoadLemmas.{by_number}
 use Rattle.fj_transfer.specs.Transfer.{widths, bytes_of, values_from}
 
 -- ---- cells

@@ -16,9 +16,9 @@ use Rattle.fj_unfrec.specs.Frames.{framed, frame}
 use Rattle.fj_unfrec.specs.Stored.{stored, stored_width, value_of, ComeBack}
 use Rattle.fj_unfrec.proofs.FrameLemmas.{frame_found}
 use Rattle.fj_byterec.proofs.Apart.{written_there, other_there}
-use Rattle.fj_list.specs.declared.moved.Moved.{Moved}
-use Rattle.fj_list.specs.ListInput.{kind_at, with_value}
-use Rattle.fj_list.specs.Moved.{value_at}
+use Rattle.fj_moved.specs.declared.moved.Moved.{Moved}
+use Rattle.fj_moved.specs.Cells.{kind_at, with_value}
+use Rattle.fj_moved.specs.Moved.{value_at}
 use Rattle.fj_list.specs.ReadAgain.{with_values}
 use Rattle.fj_control.specs.Steps.{Given}
 use Rattle.fj_connect.specs.Connection.{Connection, begun, between, with_frame, with_direct, with_bytes}

@@ -16,7 +16,7 @@ use Rattle.fj_unfrec.specs.declared.read.FrameRead.TheVariants.{Frame, End, Brok
 use Rattle.fj_unfrec.proofs.FrameLemmas.{parts_of}
 use Rattle.fj_byterec.specs.Pieces.{record_start, piece, filled_to, with_record, bytes_from}
 use Rattle.fj_byterec.proofs.RecordLaws.{record_end, record_long}
-use Rattle.fj_list.specs.declared.moved.Moved.{Moved}
+use Rattle.fj_moved.specs.declared.moved.Moved.{Moved}
 use Rattle.fj_connect.specs.DirectRuns.{with_direct_run}
 use Rattle.fj_connect.specs.Connection.{Connection, bytes_behind, between, past_end, with_frame, with_direct, with_bytes}
 use Rattle.fj_transfer.specs.Transfer.{Done, told_with, in_error, output_done, with_undefined, values_from, bytes_needed, body_read, frame_read, sequential_read, piece_read, direct_read, bytes_read, stream_read, sequential_written, direct_written, stream_written}

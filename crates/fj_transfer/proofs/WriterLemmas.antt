@@ -16,9 +16,9 @@ use Rattle.fj_line.proofs.PageLemmas.{written_whole}
 use Rattle.std.proofs.lemmas.Bool.Decides.{nat_tests}
 use Rattle.fj_control.specs.Steps.{Given}
 use Rattle.fj_control.specs.Walk.{is_left}
-use Rattle.fj_list.specs.declared.items.OutputItems.{OutputItems}
-use Rattle.fj_list.specs.declared.items.OutputItems.TheVariants.{Row, Cells, Runs}
-use Rattle.fj_list.specs.Items.{Output, items_left, values_ahead}
+use Rattle.fj_moved.specs.declared.items.OutputItems.{OutputItems}
+use Rattle.fj_moved.specs.declared.items.OutputItems.TheVariants.{Row, Cells, Runs}
+use Rattle.fj_moved.specs.Items.{Output, items_left, values_ahead}
 use Rattle.fj_transfer.specs.declared.writer.Writer.{Writer}
 use Rattle.fj_transfer.specs.Writing.{actions_left, CarriesFirst}
 

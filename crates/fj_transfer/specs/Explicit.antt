@@ -8,7 +8,7 @@ use Rattle.fj_line.specs.Actions.{Action, put, end_record, meet}
 use Rattle.fj_line.specs.Actions as action
 use Rattle.fj_control.specs.Paired.{Part, item, string, move, slash, lacking, parts, items_in, has_lacking}
 use Rattle.fj_edit_out.specs.OutputField.{output_field}
-use Rattle.fj_list.specs.Items.{Output}
+use Rattle.fj_moved.specs.Items.{Output}
 
 abbrev pub field_put : Option (List ℕ) → Action
 field_put (Some field) = put field

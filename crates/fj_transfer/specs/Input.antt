@@ -12,7 +12,7 @@ use Rattle.fj_value.specs.declared.condition.Condition.{Condition}
 use Rattle.fj_value.specs.declared.condition.Condition.TheVariants.{Fine, EndOfRecord, Error}
 use Rattle.fj_control.specs.Steps.{Given}
 use Rattle.fj_edit_in.specs.InputField.{input_field}
-use Rattle.fj_list.specs.ListInput.{with_value, kind_at}
+use Rattle.fj_moved.specs.Cells.{with_value, kind_at}
 use Rattle.fj_connect.specs.Connection.{Connection, in_record}
 use Rattle.fj_transfer.specs.AtHand.{AtHand, behind, next_record}
 use Rattle.fj_line.specs.Line.{position_behind}

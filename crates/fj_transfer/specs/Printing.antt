@@ -7,8 +7,8 @@ use Rattle.fj_line.specs.Actions.{Action, put, end_record, AtHand, first_record,
 use Rattle.fj_line.specs.Records.{texts_of}
 use Rattle.fj_control.specs.Steps.{Given, steps}
 use Rattle.fj_control.specs.Paired.{paired}
-use Rattle.fj_list.specs.declared.moved.Moved.{Moved}
-use Rattle.fj_list.specs.Items.{items_of, values_in}
+use Rattle.fj_moved.specs.declared.moved.Moved.{Moved}
+use Rattle.fj_moved.specs.Items.{items_of, values_in}
 use Rattle.fj_list.specs.Listing.{list_actions}
 use Rattle.fj_namelist.specs.GroupText.{group_written}
 use Rattle.fj_transfer.specs.declared.transfer.TransferSpec.{TransferSpec}

@@ -14,11 +14,12 @@ use Rattle.fj_seqrec.specs.Lines.{lines}
 use Rattle.fj_unfrec.specs.Frames.{frame}
 use Rattle.fj_unfrec.specs.Stored.{stored, stored_width, value_of}
 use Rattle.fj_byterec.specs.Pieces.{piece, bytes_from}
-use Rattle.fj_list.specs.declared.moved.Moved.{Moved}
-use Rattle.fj_list.specs.ListInput.{Outcome, list_input, with_value, kind_at}
+use Rattle.fj_moved.specs.declared.moved.Moved.{Moved}
+use Rattle.fj_list.specs.ListInput.{Outcome, list_input}
+use Rattle.fj_moved.specs.Cells.{with_value, kind_at}
 use Rattle.fj_list.specs.ListText.{text_of}
-pub use Rattle.fj_list.specs.Load.{with_undefined}
-use Rattle.fj_list.specs.Moved.{value_at}
+pub use Rattle.fj_moved.specs.Load.{with_undefined}
+use Rattle.fj_moved.specs.Moved.{value_at}
 use Rattle.fj_control.specs.Steps.{Given}
 use Rattle.fj_transfer.specs.Change.{changed}
 use Rattle.fj_transfer.specs.declared.transfer.TransferSpec.{TransferSpec}

@@ -4,9 +4,9 @@ use Rattle.fj_value.specs.declared.value.Cell.{Cell}
 use Rattle.fj_value.specs.declared.condition.Condition.TheVariants.{Fine, Error}
 use Rattle.fj_value.specs.Kind.{IsOfKind}
 use Rattle.fj_byterec.specs.Pieces.{piece, filled_to}
-use Rattle.fj_list.specs.declared.moved.Moved.{Moved}
-use Rattle.fj_list.specs.ListInput.{kind_at}
-use Rattle.fj_list.specs.Moved.{value_at, values_of}
+use Rattle.fj_moved.specs.declared.moved.Moved.{Moved}
+use Rattle.fj_moved.specs.Cells.{kind_at}
+use Rattle.fj_moved.specs.Moved.{value_at, values_of}
 use Rattle.fj_list.specs.ReadAgain.{with_values}
 use Rattle.fj_connect.specs.Connection.{Connection, between}
 use Rattle.fj_control.specs.Steps.{Given}

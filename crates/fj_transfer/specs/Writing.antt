@@ -10,7 +10,7 @@ use Rattle.fj_line.specs.Actions.{Action, put, AtHand, carried_out}
 use Rattle.fj_line.specs.Page.{at_hand}
 use Rattle.fj_line.specs.Records.{texts_from}
 use Rattle.fj_edit_out.specs.OutputField.{integer_field}
-use Rattle.fj_list.specs.Items.{Output, items_left}
+use Rattle.fj_moved.specs.Items.{Output, items_left}
 use Rattle.fj_list.specs.ListText.{text_of}
 use Rattle.fj_transfer.specs.declared.writer.Writer.{Writer}
 use Rattle.fj_transfer.specs.Explicit.{action_of}

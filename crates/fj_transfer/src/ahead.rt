@@ -1,8 +1,9 @@
 // The records of a connection one after another, as list-directed and namelist input reads them, and where that comes to.
 ghost use Rattle.std.specs.Prelude.{◌≡◌, ◌≤◌, ◌↔◌, length, All, IfOk};
 ghost use Rattle.fj_outside.specs.Faults.{Rose};
-ghost use Rattle.fj_list.specs.ListInput.{list_input, places_of};
-ghost use Rattle.fj_list.specs.Moved.{IsOrdered};
+ghost use Rattle.fj_list.specs.ListInput.{list_input};
+ghost use Rattle.fj_moved.specs.Cells.{places_of};
+ghost use Rattle.fj_moved.specs.Moved.{IsOrdered};
 ghost use Rattle.fj_namelist.specs.GroupInput.{group_input};
 ghost use Rattle.fj_namelist.specs.GroupText.{IsWithin};
 ghost use Rattle.fj_connect.specs.Linked.{connection_of};
@@ -15,7 +16,8 @@ ghost use Rattle.fj_transfer.specs.Transfer.{records_to_come, condition_to_come}
 use crate::look::look_on;
 use crate::reached::Reached;
 use fj_connect::Connection;
-use fj_list::{GroupMember, More, Moved, Records, read_list};
+use fj_list::{More, Records, read_list};
+use fj_moved::{GroupMember, Moved};
 use fj_namelist::read_group;
 use fj_outside::{FileStore, Stop};
 use fj_seqrec::RecordRead;

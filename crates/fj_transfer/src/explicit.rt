@@ -5,7 +5,7 @@ ghost use Rattle.fj_value.specs.declared.value.Cell.{Cell};
 ghost use Rattle.fj_outside.specs.Faults.{Rose};
 ghost use Rattle.fj_span.specs.Change.{KeepsUpToChange};
 ghost use Rattle.fj_modes.specs.Words.{same_access};
-ghost use Rattle.fj_list.specs.ListInput.{places_of};
+ghost use Rattle.fj_moved.specs.Cells.{places_of};
 ghost use Rattle.fj_connect.specs.Connection.{between, in_record, past_end};
 ghost use Rattle.fj_connect.specs.Linked.{connection_of};
 ghost use Rattle.fj_connect.specs.Positions.{ended};
@@ -19,8 +19,8 @@ ghost use Rattle.fj_transfer.specs.Transfer.{unread, input_done, explicit_ended,
 use crate::hand::{Found, Hand, line_at};
 use crate::reader::Reader;
 use fj_connect::{Connection, Spot, Within};
-use fj_list::{Cells, undefine};
 use fj_modes::{Access, LONGEST_FILE};
+use fj_moved::{Cells, undefine};
 use fj_outside::{FileStore, Stop};
 use fj_seqrec::RecordRead;
 use fj_value::{Condition, Text};

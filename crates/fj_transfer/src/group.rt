@@ -8,7 +8,8 @@ ghost use Rattle.fj_transfer.specs.Printing.{record_actions};
 ghost use Rattle.fj_transfer.specs.Writing.{CarriesFirst};
 
 use fj_line::{Page, Unwritten};
-use fj_list::{COLUMNS, GroupMember, push_value};
+use fj_list::{COLUMNS, push_value};
+use fj_moved::GroupMember;
 use fj_value::{Cell, EditModes, Text, Value};
 use std::alloc::AllocError;
 

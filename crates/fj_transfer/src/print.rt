@@ -3,9 +3,9 @@ ghost use Rattle.std.specs.Prelude.{◌≡◌, ◌+◌, ◌-◌, ◌==◌, ◌�
 ghost use Rattle.fj_value.specs.declared.condition.Condition.TheVariants.{Fine};
 ghost use Rattle.fj_line.specs.Actions.{Action, Appends, first_record, output};
 ghost use Rattle.fj_line.specs.Page.{at_hand, IsIn, IsAtEnd, Keeps, Carries, told_by};
-ghost use Rattle.fj_list.specs.Items.{items_of, items_left, values_in};
+ghost use Rattle.fj_moved.specs.Items.{items_of, items_left, values_in};
 ghost use Rattle.fj_list.specs.Listing.{list_actions};
-ghost use Rattle.fj_list.specs.declared.moved.Moved.{Moved};
+ghost use Rattle.fj_moved.specs.declared.moved.Moved.{Moved};
 ghost use Rattle.fj_namelist.specs.GroupText.{group_written, IsWithin};
 ghost use Rattle.fj_transfer.specs.Change.{changed};
 ghost use Rattle.fj_transfer.specs.Explicit.{explicit_actions};
@@ -18,7 +18,8 @@ use crate::transfer::{Layout, Transfer};
 use crate::writer::Writer;
 use fj_format::Format;
 use fj_line::{Page, Unwritten};
-use fj_list::{GroupMember, Load, OutputItems, Shape, put_list};
+use fj_list::put_list;
+use fj_moved::{GroupMember, Load, OutputItems, Shape};
 use fj_value::{Condition, EditModes, Text};
 use std::alloc::{AllocError, Global};
 

@@ -11,7 +11,7 @@ ghost use Rattle.fj_format.specs.Unfolding as elementary;
 ghost use Rattle.fj_control.specs.Steps.{Given, gives, no_data};
 ghost use Rattle.fj_control.specs.Walk.{given, due, items_behind};
 ghost use Rattle.fj_connect.specs.Connection.{Connection as Connected};
-ghost use Rattle.fj_list.specs.ListInput.{places_of};
+ghost use Rattle.fj_moved.specs.Cells.{places_of};
 ghost use Rattle.fj_transfer.specs.Input.{Progress, Ended, field_read, carried_out, stopped};
 ghost use Rattle.fj_transfer.specs.Reader.{progress_of, items_left, parts_left, comes, IsHand, IsIn, IsReady, StaysTheSame};
 
@@ -20,7 +20,7 @@ use crate::hand::{Found, Hand, record_behind};
 use crate::stored::kind_at;
 use fj_connect::Connection;
 use fj_control::{Cursor, Move, Step, modes_behind};
-use fj_list::{Cells, define};
+use fj_moved::{Cells, define};
 use fj_outside::{FileStore, Stop};
 use fj_value::{Condition, Edit, EditModes, Text, Value};
 use std::alloc::{AllocError, Global};

@@ -3,12 +3,12 @@ ghost use Rattle.std.specs.List.{flat_map};
 ghost use Rattle.std.specs.Prelude.{◌≡◌, ◌<◌, ◌≤◌, ◌++◌, [], ◌∷◌, length, take, nat_le, if◌then◌else◌, Some, None, OnOk, IfOk, All};
 ghost use Rattle.fj_unfrec.specs.Frames.{framed};
 ghost use Rattle.fj_unfrec.specs.Stored.{stored, stored_width, value_of};
-ghost use Rattle.fj_list.specs.ListInput.{kind_at, places_of, with_value};
-ghost use Rattle.fj_list.specs.Moved.{IsOrdered};
+ghost use Rattle.fj_moved.specs.Cells.{kind_at, places_of, with_value};
+ghost use Rattle.fj_moved.specs.Moved.{IsOrdered};
 ghost use Rattle.fj_transfer.specs.Transfer.{widths, bytes_of, body_of, values_from};
 
 use crate::room::record_room;
-use fj_list::{Cells, Load, Shape, define};
+use fj_moved::{Cells, Load, Shape, define};
 use fj_unfrec::{get_value, put_value};
 use fj_value::{Cell, Kind, Text, Value};
 use std::alloc::{AllocError, Global};

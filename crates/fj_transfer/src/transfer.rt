@@ -2,14 +2,14 @@
 ghost use Rattle.std.specs.Prelude.{◌≡◌, ◌<◌, ◌^◌, length, All};
 ghost use Rattle.std.specs.Option.{option_map_or};
 ghost use Rattle.std.proofs.Props.{props};
-ghost use Rattle.fj_list.specs.Moved.{AreDistinct, IsOrdered};
-ghost use Rattle.fj_list.specs.declared.moved.Moved.{Moved as MovedCells};
+ghost use Rattle.fj_moved.specs.Moved.{AreDistinct, IsOrdered};
+ghost use Rattle.fj_moved.specs.declared.moved.Moved.{Moved as MovedCells};
 ghost use Rattle.fj_namelist.specs.GroupText.{IsWithin};
 ghost use Rattle.fj_transfer.specs.Moving.{members_of};
 
 use crate::change::EditChange;
 use fj_format::Format;
-use fj_list::{GroupMember, Load, Moved};
+use fj_moved::{GroupMember, Load, Moved};
 use fj_value::{Items, Tag, Text};
 
 /// The variables of a namelist group.

@@ -12,7 +12,7 @@ use fj_control::{Cursor, Move, Step, modes_behind};
 use fj_edit_out::field;
 use fj_format::Format;
 use fj_line::{Page, Unwritten};
-use fj_list::{Item, OutputItems};
+use fj_moved::{Item, OutputItems};
 use fj_value::{Condition, Edit, EditModes, Text};
 
 /// An output under an explicit format.

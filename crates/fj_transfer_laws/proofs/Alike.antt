@@ -11,7 +11,7 @@ use Rattle.fj_modes.specs.Words.{same_access}
 use Rattle.fj_line.specs.Line.{farthest, position_behind}
 use Rattle.fj_line.specs.declared.moves.Move.TheVariants.{To, Back, Ahead}
 use Rattle.fj_control.specs.Paired.{Part, item, string, move, slash, lacking}
-use Rattle.fj_list.specs.ListInput.{with_value, kind_at}
+use Rattle.fj_moved.specs.Cells.{with_value, kind_at}
 use Rattle.fj_seqrec.specs.Lines.{first_line, behind_line}
 use Rattle.fj_connect.specs.Connection.{Connection, bytes_behind, rest_of_record, in_record, past_record, between}
 use Rattle.fj_connect.proofs.RestProofs.{rests}

@@ -15,8 +15,8 @@ use Rattle.fj_format.specs.declared.item.FormatItem.{FormatItem}
 use Rattle.fj_control.specs.Steps.{Given, steps}
 use Rattle.fj_line.specs.Line.{farthest, position_behind}
 use Rattle.fj_control.specs.Paired.{Part, item, string, move, slash, lacking, paired}
-use Rattle.fj_list.specs.declared.moved.Moved.{Moved}
-use Rattle.fj_list.specs.ListInput.{with_value, kind_at}
+use Rattle.fj_moved.specs.declared.moved.Moved.{Moved}
+use Rattle.fj_moved.specs.Cells.{with_value, kind_at}
 use Rattle.fj_seqrec.specs.Lines.{first_line}
 use Rattle.fj_seqrec.proofs.Positions.{line_feed_place, place-le-length}
 use Rattle.fj_seqrec.proofs.ReadLaws.{first_line_ended, first_line_last, stripped_length}

@@ -16,7 +16,7 @@ use Rattle.fj_modes.specs.declared.specifiers.Start.TheVariants.{AsIs}
 use Rattle.fj_format.specs.Unfolding as step
 use Rattle.fj_control.specs.Steps.{Given, gives, done}
 use Rattle.fj_edit_in.specs.InputField.{trimmed, blanks_read}
-use Rattle.fj_list.specs.declared.moved.GroupMember.{GroupMember}
+use Rattle.fj_moved.specs.declared.moved.GroupMember.{GroupMember}
 use Rattle.fj_connect.specs.Connection.{Connection, between, in_record}
 use Rattle.fj_connect.specs.declared.spot.Within.TheVariants.{Outside}
 use Rattle.fj_transfer.specs.declared.change.EditChange.{EditChange}

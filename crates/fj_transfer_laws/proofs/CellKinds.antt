@@ -16,9 +16,10 @@ use Rattle.fj_list.specs.declared.constant.Read.{Read}
 use Rattle.fj_list.specs.declared.constant.Read.TheVariants as read
 use Rattle.fj_list.specs.Constant.{read_as}
 use Rattle.fj_list.specs.Stream.{Stream, stream}
-use Rattle.fj_list.specs.ListInput.{Split, stopped, Outcome, kind_at, with_value, split, supplied, served, served_from, items_read, list_input, places_of}
+use Rattle.fj_list.specs.ListInput.{Split, stopped, Outcome, split, supplied, served, served_from, items_read, list_input}
+use Rattle.fj_moved.specs.Cells.{kind_at, with_value, places_of}
 use Rattle.fj_list.specs.ListInput as list
-use Rattle.fj_list.proofs.Outcomes.{places_kept}
+use Rattle.fj_moved.proofs.CellLemmas.{places_kept}
 use Rattle.fj_list.proofs.Constants.{kinds_kept}
 use Rattle.fj_transfer.specs.Transfer.{with_undefined, values_from, widths}
 use Rattle.fj_transfer.proofs.StoredLemmas.{kind_there, widths_of_cons, widths_kept}

@@ -6,7 +6,7 @@ use Rattle.fj_value.specs.declared.condition.Condition.{Condition}
 use Rattle.fj_value.specs.declared.condition.Condition.TheVariants.{Fine}
 use Rattle.fj_control.specs.Paired.{Part, item, string, move, slash, lacking}
 use Rattle.fj_line.specs.Line.{position_behind}
-use Rattle.fj_list.specs.ListInput.{with_value, kind_at}
+use Rattle.fj_moved.specs.Cells.{with_value, kind_at}
 use Rattle.fj_transfer.specs.AtHand.{AtHand, behind, next_record}
 use Rattle.fj_transfer.specs.Input.{Progress, Ended, width_for, characters_for, with_field, field_read, with_record, carried_out}
 use Rattle.fj_transfer_laws.proofs.Results.{result_for, result_never, next_never, outcome}

@@ -18,8 +18,8 @@ use Rattle.fj_list.specs.declared.constant.Form.{Form}
 use Rattle.fj_list.specs.declared.constant.Form.TheVariants.{Null, Undelimited, Delimited}
 use Rattle.fj_list.specs.declared.constant.Read.{Read}
 use Rattle.fj_list.specs.declared.constant.Read.TheVariants as read
-use Rattle.fj_list.specs.declared.moved.GroupMember.{GroupMember}
-use Rattle.fj_list.specs.ListInput.{with_value, places_of}
+use Rattle.fj_moved.specs.declared.moved.GroupMember.{GroupMember}
+use Rattle.fj_moved.specs.Cells.{with_value, places_of}
 use Rattle.fj_list.proofs.Constants.{constants_of_kind}
 use Rattle.fj_namelist.specs.declared.token.Token.{Token}
 use Rattle.fj_namelist.specs.declared.token.Token.TheVariants as token

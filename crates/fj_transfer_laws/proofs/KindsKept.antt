@@ -20,9 +20,10 @@ use Rattle.fj_line.specs.Line.{position_behind}
 use Rattle.fj_control.specs.Steps.{Given}
 use Rattle.fj_control.specs.Paired.{Part, item, string, move, slash, lacking, paired}
 use Rattle.fj_edit_in.specs.InputField.{input_field}
-use Rattle.fj_list.specs.declared.moved.Moved.{Moved}
+use Rattle.fj_moved.specs.declared.moved.Moved.{Moved}
 use Rattle.fj_list.specs.ConstantLaws.{HaveKinds}
-use Rattle.fj_list.specs.ListInput.{with_value, kind_at, list_input}
+use Rattle.fj_list.specs.ListInput.{list_input}
+use Rattle.fj_moved.specs.Cells.{with_value, kind_at}
 use Rattle.fj_namelist.specs.GroupInput.{group_input}
 use Rattle.fj_connect.specs.Connection.{Connection, bytes_behind, between, begun, at_number, with_frame, with_direct, with_bytes}
 use Rattle.fj_connect.specs.Positions.{ended}

@@ -8,7 +8,7 @@ use Rattle.fj_line.specs.declared.moves.Move.{Move}
 use Rattle.fj_line.specs.declared.moves.Move.TheVariants.{To, Back, Ahead}
 use Rattle.fj_control.specs.Paired as part
 use Rattle.fj_control.specs.Paired.{Part}
-use Rattle.fj_list.specs.Items.{Output}
+use Rattle.fj_moved.specs.Items.{Output}
 use Rattle.fj_edit_out.specs.OutputField.{output_field}
 use Rattle.fj_transfer.specs.Explicit.{field_put, action_of}
 use Rattle.fj_transfer.specs.Printing.{printed_of}

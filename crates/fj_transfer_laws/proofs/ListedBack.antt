@@ -17,12 +17,12 @@ use Rattle.fj_control.specs.Steps.{Given}
 use Rattle.fj_line.specs.Line.{empty_line, written}
 use Rattle.fj_line.specs.Actions.{Action, put, move, end_record, meet, AtHand as LineAtHand, first_record as line_begun, behind as done, condition_in, carried_out}
 use Rattle.fj_line.specs.Records.{texts_of, MeetNone}
-use Rattle.fj_list.specs.declared.moved.Moved.{Moved}
-use Rattle.fj_list.specs.Items.{items_of, values_in}
+use Rattle.fj_moved.specs.declared.moved.Moved.{Moved}
+use Rattle.fj_moved.specs.Items.{items_of, values_in}
 use Rattle.fj_list.specs.Listing.{RecordsAreListed}
 use Rattle.fj_list.specs.ListInput.{Outcome, list_input}
 use Rattle.fj_list.specs.ListText.{text_of, listed}
-use Rattle.fj_list.specs.Moved.{value_at, values_of}
+use Rattle.fj_moved.specs.Moved.{value_at, values_of}
 use Rattle.fj_list.specs.ReadAgain.{AreOfKinds, with_values}
 use Rattle.fj_list.proofs.ReadAgain.{values_again}
 use Rattle.fj_namelist.specs.GroupText.{group_written}

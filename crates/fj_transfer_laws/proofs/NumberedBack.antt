@@ -16,9 +16,9 @@ use Rattle.fj_line.specs.Actions.{Action, end_record, AtHand as LineAtHand, firs
 use Rattle.fj_line.specs.Records.{texts_of, MeetNone}
 use Rattle.fj_byterec.specs.Pieces.{piece, filled_to, with_record}
 use Rattle.fj_byterec.proofs.Apart.{written_there, other_there}
-use Rattle.fj_list.specs.declared.moved.Moved.{Moved}
-use Rattle.fj_list.specs.Items.{items_of, values_in}
-use Rattle.fj_list.specs.Moved.{values_of}
+use Rattle.fj_moved.specs.declared.moved.Moved.{Moved}
+use Rattle.fj_moved.specs.Items.{items_of, values_in}
+use Rattle.fj_moved.specs.Moved.{values_of}
 use Rattle.fj_list.specs.ReadAgain.{with_values}
 use Rattle.fj_connect.specs.Connection.{Connection, begun, missing_feed, past_record, at_number, with_direct, with_records, past_end}
 use Rattle.fj_connect.specs.Positions.{ended}

@@ -6,7 +6,7 @@ use Rattle.fj_value.specs.declared.condition.Condition.TheVariants.{Fine, EndOfF
 use Rattle.fj_modes.specs.OpenSpec.{record_limit}
 use Rattle.std.specs.Prelude.{List}
 use Rattle.fj_control.specs.Steps.{Given}
-use Rattle.fj_list.specs.declared.moved.Moved.{Moved}
+use Rattle.fj_moved.specs.declared.moved.Moved.{Moved}
 use Rattle.fj_connect.specs.Connection.{Connection, between}
 use Rattle.fj_connect.specs.Positions.{ended}
 use Rattle.fj_transfer.specs.declared.transfer.TransferSpec.{TransferSpec}

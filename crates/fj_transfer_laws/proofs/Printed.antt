@@ -10,9 +10,9 @@ use Rattle.fj_line.specs.Line.{LineState, most_bytes, empty_line}
 use Rattle.fj_line.specs.Actions.{Action, put, move, end_record, AtHand as LineAtHand, behind as done, condition_in, excess_of, unless, carried_out}
 use Rattle.fj_line.specs.Records.{texts_from, texts_of, MeetNone}
 use Rattle.fj_edit_out.specs.OutputField.{output_field}
-use Rattle.fj_list.specs.Items.{Output, in_cell, in_cells, values_in}
-use Rattle.fj_list.specs.ListInput.{kind_at}
-use Rattle.fj_list.specs.Moved.{value_at}
+use Rattle.fj_moved.specs.Items.{Output, in_cell, in_cells, values_in}
+use Rattle.fj_moved.specs.Cells.{kind_at}
+use Rattle.fj_moved.specs.Moved.{value_at}
 use Rattle.fj_transfer.specs.Explicit.{field_put, action_of}
 use Rattle.fj_transfer.specs.Printing.{Printed, printed_of}
 use Rattle.fj_transfer.specs.TransferLaws.{AreOfTheirKinds}

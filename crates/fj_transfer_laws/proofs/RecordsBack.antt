@@ -20,8 +20,8 @@ use Rattle.fj_line.specs.Records.{texts_from, MeetNone}
 use Rattle.fj_line.specs.declared.moves.Move.TheVariants.{Ahead}
 use Rattle.fj_edit_out.specs.OutputField.{output_field}
 use Rattle.fj_edit_in.specs.InputField.{input_field}
-use Rattle.fj_list.specs.Items.{Output, values_in}
-use Rattle.fj_list.specs.ListInput.{with_value, kind_at}
+use Rattle.fj_moved.specs.Items.{Output, values_in}
+use Rattle.fj_moved.specs.Cells.{with_value, kind_at}
 use Rattle.fj_list.specs.ReadAgain.{with_values}
 use Rattle.fj_connect.specs.Connection.{Connection}
 use Rattle.fj_transfer.specs.AtHand.{AtHand, behind, next_record}

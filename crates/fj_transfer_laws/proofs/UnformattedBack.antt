@@ -18,8 +18,8 @@ use Rattle.fj_unfrec.specs.Reading.{frame_start, start_of}
 use Rattle.fj_unfrec.proofs.FrameLemmas.{before_found}
 use Rattle.fj_byterec.specs.Pieces.{piece, filled_to, bytes_from}
 use Rattle.fj_byterec.proofs.Apart.{written_there, other_there}
-use Rattle.fj_list.specs.declared.moved.Moved.{Moved}
-use Rattle.fj_list.specs.Moved.{values_of}
+use Rattle.fj_moved.specs.declared.moved.Moved.{Moved}
+use Rattle.fj_moved.specs.Moved.{values_of}
 use Rattle.fj_list.specs.ReadAgain.{with_values}
 use Rattle.fj_connect.specs.Connection.{Connection, bytes_before, between, at_number, with_records, with_frame, with_direct, with_bytes}
 use Rattle.fj_connect.specs.Positions.{ended, record_before, motion_error, moved_unless, moved}

@@ -15,10 +15,10 @@ use Rattle.fj_control.specs.Paired.{Part, paired}
 use Rattle.fj_line.specs.Line.{farthest, empty_line}
 use Rattle.fj_line.specs.Actions.{Action, end_record, AtHand as LineAtHand, first_record as line_begun, carried_out}
 use Rattle.fj_line.specs.Records.{texts_of, MeetNone}
-use Rattle.fj_list.specs.declared.moved.Moved.{Moved}
-use Rattle.fj_list.specs.Items.{items_of, values_in}
+use Rattle.fj_moved.specs.declared.moved.Moved.{Moved}
+use Rattle.fj_moved.specs.Items.{items_of, values_in}
 use Rattle.fj_list.specs.ListText.{text_of}
-use Rattle.fj_list.specs.Moved.{values_of}
+use Rattle.fj_moved.specs.Moved.{values_of}
 use Rattle.fj_list.specs.ReadAgain.{with_values}
 use Rattle.fj_seqrec.specs.LineLaws.{IsPlain}
 use Rattle.fj_connect.specs.Connection.{Connection, bytes_before, bytes_behind, between, begun, missing_feed, in_record, with_records, past_end}

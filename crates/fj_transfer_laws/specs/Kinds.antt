@@ -2,10 +2,10 @@
 use Rattle.std.specs.Prelude.{◌≡◌, ℕ, List, take, drop, All}
 use Rattle.fj_value.specs.declared.value.Cell.{Cell}
 use Rattle.fj_control.specs.Steps.{Given}
-use Rattle.fj_list.specs.declared.moved.Moved.{Moved}
-use Rattle.fj_list.specs.declared.moved.GroupMember.{GroupMember}
+use Rattle.fj_moved.specs.declared.moved.Moved.{Moved}
+use Rattle.fj_moved.specs.declared.moved.GroupMember.{GroupMember}
 use Rattle.fj_list.specs.ConstantLaws.{HaveKinds}
-use Rattle.fj_list.specs.ListInput.{places_of}
+use Rattle.fj_moved.specs.Cells.{places_of}
 use Rattle.fj_connect.specs.Connection.{Connection}
 use Rattle.fj_transfer.specs.declared.transfer.TransferSpec.{TransferSpec}
 use Rattle.fj_transfer.specs.Moving.{members_of}

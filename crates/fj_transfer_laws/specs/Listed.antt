@@ -2,10 +2,10 @@
 use Rattle.std.specs.Prelude.{◌≡◌, ℕ, ◌+◌, true, false, List, length, All, Some}
 use Rattle.fj_value.specs.declared.condition.Condition.TheVariants.{Fine}
 use Rattle.fj_modes.specs.declared.specifiers.Action.TheVariants.{ReadWrite}
-use Rattle.fj_list.specs.declared.moved.Moved.{Moved}
-use Rattle.fj_list.specs.declared.moved.GroupMember.{GroupMember}
+use Rattle.fj_moved.specs.declared.moved.Moved.{Moved}
+use Rattle.fj_moved.specs.declared.moved.GroupMember.{GroupMember}
 use Rattle.fj_list.specs.ListText.{mark_of, listed}
-use Rattle.fj_list.specs.Moved.{values_of}
+use Rattle.fj_moved.specs.Moved.{values_of}
 use Rattle.fj_list.specs.ReadAgain.{with_values}
 use Rattle.fj_namelist.specs.GroupText.{group_written}
 use Rattle.fj_namelist.specs.GroupReadAgain.{IsName, AreWritten, ShareCells, with_members}

@@ -12,9 +12,9 @@ use Rattle.fj_control.specs.Paired.{Part, item, string, move, slash, lacking, pa
 use Rattle.fj_line.specs.declared.moves.Move.TheVariants.{To, Back, Ahead}
 use Rattle.fj_line.specs.Records.{texts_of}
 use Rattle.fj_edit_out.specs.OutputField.{output_field}
-use Rattle.fj_list.specs.declared.moved.Moved.{Moved}
-use Rattle.fj_list.specs.Items.{Output, items_of}
-use Rattle.fj_list.specs.Moved.{values_of}
+use Rattle.fj_moved.specs.declared.moved.Moved.{Moved}
+use Rattle.fj_moved.specs.Items.{Output, items_of}
+use Rattle.fj_moved.specs.Moved.{values_of}
 use Rattle.fj_list.specs.ReadAgain.{with_values}
 use Rattle.fj_seqrec.specs.LineLaws.{IsPlain}
 use Rattle.fj_connect.specs.Connection.{Connection, between, missing_feed}

@@ -4,8 +4,8 @@ use Rattle.fj_value.specs.declared.condition.Condition.TheVariants.{Fine}
 use Rattle.fj_modes.specs.declared.specifiers.Access.TheVariants.{Sequential, Direct, Stream}
 use Rattle.fj_modes.specs.declared.specifiers.Action.TheVariants.{ReadWrite}
 use Rattle.fj_byterec.specs.Pieces.{piece}
-use Rattle.fj_list.specs.declared.moved.Moved.{Moved}
-use Rattle.fj_list.specs.Moved.{values_of}
+use Rattle.fj_moved.specs.declared.moved.Moved.{Moved}
+use Rattle.fj_moved.specs.Moved.{values_of}
 use Rattle.fj_list.specs.ReadAgain.{with_values}
 use Rattle.fj_connect.specs.Connection.{Connection, between}
 use Rattle.fj_connect.specs.Linked.{HasLength}

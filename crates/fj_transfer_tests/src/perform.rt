@@ -1,7 +1,7 @@
 // Statements on files in memory, with the files, the positions and the values written out by hand.
 ghost use Rattle.std.specs.Prelude.{◌≡◌, ◌≤◌, ◌<◌, ◌^◌, ◌↔◌, [], length, All, IfOk};
 ghost use Rattle.std.specs.FinSet as set;
-ghost use Rattle.fj_list.specs.Moved.{AreDistinct, IsOrdered};
+ghost use Rattle.fj_moved.specs.Moved.{AreDistinct, IsOrdered};
 ghost use Rattle.fj_namelist.specs.GroupText.{IsWithin};
 ghost use Rattle.fj_outside.specs.Holdings.{IsInUse};
 ghost use Rattle.fj_transfer.specs.Moving.{members_of};
@@ -11,8 +11,8 @@ mod sizes;
 
 use fj_connect::{Connection, OpenFault, open_file};
 use fj_format::parse;
-use fj_list::{GroupMember, Load, Moved};
 use fj_modes::{Access, Action, FileName, FileStatus, OpenSpec, settle_open};
+use fj_moved::{GroupMember, Load, Moved};
 use fj_outside::{Disk, FileStore, MemoryDisk, Stop};
 use fj_perform::perform;
 use fj_transfer::{EditChange, Layout, Members, Transfer, TransferSpec};

@@ -1,6 +1,6 @@
 // Outputs under explicit formats, with their records written out by hand.
 ghost use Rattle.std.specs.Prelude.{◌≡◌, ◌<◌, ◌^◌, [], length, All, IfOk};
-ghost use Rattle.fj_list.specs.Moved.{AreDistinct, IsOrdered};
+ghost use Rattle.fj_moved.specs.Moved.{AreDistinct, IsOrdered};
 ghost use Rattle.fj_namelist.specs.GroupText.{IsWithin};
 ghost use Rattle.fj_transfer.specs.Moving.{members_of};
 ghost use Rattle.fj_transfer.specs.Printing.{IsRecords};
@@ -10,7 +10,7 @@ mod listed;
 
 use crate::transfer::listed::members;
 use fj_format::parse;
-use fj_list::{Load, Moved, OutputItems, Run, Values};
+use fj_moved::{Load, Moved, OutputItems, Run, Values};
 use fj_transfer::{EditChange, Layout, Transfer, TransferSpec, print_explicit, print_records};
 use fj_value::{Cell, Condition, Delim, EditModes, Items, Kind, Place, Tag, Text, Value};
 use std::alloc::{AllocError, Global};

@@ -1,7 +1,7 @@
 // Transfers on files in memory, with the bytes of the files written out by hand.
 ghost use Rattle.std.specs.Prelude.{◌≡◌, ◌↔◌, ◌<◌, ◌^◌, length, All, IfOk};
 ghost use Rattle.std.specs.FinSet as set;
-ghost use Rattle.fj_list.specs.Moved.{IsOrdered};
+ghost use Rattle.fj_moved.specs.Moved.{IsOrdered};
 ghost use Rattle.fj_outside.specs.Holdings.{IsInUse};
 ghost use Rattle.fj_namelist.specs.GroupText.{IsWithin};
 ghost use Rattle.fj_transfer.specs.Moving.{members_of};
@@ -11,8 +11,8 @@ use crate::perform::{NAME, Opening, connect, disk_of};
 use crate::transfer::{A, I4, I8, Item, L, MODES, moved};
 use fj_connect::{Connection, OpenFault};
 use fj_format::parse;
-use fj_list::{Load, Moved};
 use fj_modes::Access;
+use fj_moved::{Load, Moved};
 use fj_outside::{Disk, FileStore, Stop};
 use fj_transfer::{
     Layout, body_of, frame_of, read_direct, read_numbered, read_sequential, read_stream,

@@ -1,15 +1,15 @@
 // List-directed and namelist inputs on files in memory, with the values and positions worked out by hand.
 ghost use Rattle.std.specs.Prelude.{◌≡◌, ◌<◌, All, IfOk, length};
 ghost use Rattle.std.specs.FinSet as set;
-ghost use Rattle.fj_list.specs.Moved.{IsOrdered};
+ghost use Rattle.fj_moved.specs.Moved.{IsOrdered};
 ghost use Rattle.fj_namelist.specs.GroupText.{IsWithin};
 
 use crate::perform::{NAME, connect, disk_of};
 use crate::transfer::files::{NOT_DONE, are_values, closed, opening};
 use crate::transfer::{I4, Item, MODES, moved};
 use fj_connect::{Connection, OpenFault};
-use fj_list::{GroupMember, Moved};
 use fj_modes::Access;
+use fj_moved::{GroupMember, Moved};
 use fj_outside::{Disk, FileStore, Stop};
 use fj_transfer::{Members, read_grouped, read_listed};
 use fj_value::{Condition, Items, Kind, Text};

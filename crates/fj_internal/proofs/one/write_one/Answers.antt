@@ -1,7 +1,7 @@
 use Rattle.std.proofs.Common.{◌∷◌, [], Err, sym, ap, subst, ◌∙◌}
 use Rattle.fj_value.specs.declared.condition.Condition.{Condition}
 use Rattle.fj_line.specs.declared.unwritten.Unwritten.{Unwritten}
-use Rattle.fj_list.specs.Items.{items_left}
+use Rattle.fj_moved.specs.Items.{items_left}
 use Rattle.fj_transfer.specs.Change.{changed}
 use Rattle.fj_internal.specs.Internal.{Put}
 use Rattle.fj_internal.specs.OneElement.{PutsOne}

@@ -1,5 +1,6 @@
 use Rattle.std.proofs.Common.{◌≡◌, ◌≤◌, ◌↔◌, true, drop}
-use Rattle.fj_list.specs.ListInput.{items_read, condition_of, places_of}
+use Rattle.fj_list.specs.ListInput.{items_read, condition_of}
+use Rattle.fj_moved.specs.Cells.{places_of}
 use Rattle.fj_list.specs.Scan.{IsSound, ahead, constant_of}
 use Rattle.fj_list.proofs.read.read_items.Given as goal
 

@@ -2,7 +2,7 @@ use Rattle.std.proofs.Common.{◌≡◌, None, ap, sym, subst, ◌∙◌}
 use Rattle.fj_list.specs.declared.constant.Read.{Read}
 use Rattle.fj_list.specs.declared.constant.Read.TheVariants as read
 use Rattle.fj_list.specs.Constant.{read_as}
-use Rattle.fj_list.specs.ListInput.{kind_at}
+use Rattle.fj_moved.specs.Cells.{kind_at}
 use Rattle.fj_list.specs.Scan.{constant_of, Serves}
 use Rattle.fj_list.proofs.read.serve.Goals as goal
 

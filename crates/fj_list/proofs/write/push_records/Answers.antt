@@ -1,7 +1,7 @@
 use Rattle.std.proofs.Common.{ap, ◌∙◌, length, List}
 use Rattle.fj_value.specs.declared.value.Cell.{Cell}
 use Rattle.fj_line.specs.Page.{at_hand}
-use Rattle.fj_list.specs.Items.{Output, in_cells, items_left, values_in}
+use Rattle.fj_moved.specs.Items.{Output, in_cells, items_left, values_in}
 use Rattle.fj_list.specs.ListText.{listed, text_of}
 use Rattle.fj_list.proofs.ListLaws.{never_met, all_listed}
 use Rattle.fj_list.proofs.write.push_records.Goals as goal

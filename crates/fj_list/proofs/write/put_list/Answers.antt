@@ -3,7 +3,7 @@ use Rattle.std.proofs.lemmas.Result.{err_from_is_err_and}
 use Rattle.fj_line.specs.Actions.{end_record}
 use Rattle.fj_line.specs.Page.{at_hand}
 use Rattle.fj_line.proofs.Carrying.{went_on, stopped}
-use Rattle.fj_list.specs.Items.{items_left, values_in}
+use Rattle.fj_moved.specs.Items.{items_left, values_in}
 use Rattle.fj_list.specs.Listing.{list_texts}
 use Rattle.fj_list.proofs.write.put_list.Goals as goal
 

@@ -1,7 +1,7 @@
 use Rattle.std.proofs.Common.{◌≡◌, length}
 use Rattle.fj_line.specs.Actions.{carried_out}
 use Rattle.fj_line.specs.Page.{at_hand, IsAtEnd, Keeps}
-use Rattle.fj_list.specs.Items.{items_left, values_in}
+use Rattle.fj_moved.specs.Items.{items_left, values_in}
 use Rattle.fj_list.specs.Listing.{texts_behind}
 use Rattle.fj_list.proofs.write.put_rest.Given as goal
 

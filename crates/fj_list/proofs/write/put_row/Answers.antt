@@ -1,7 +1,7 @@
 use Rattle.std.proofs.Common.{◌&&◌, ◌==◌, sym, ap, ◌∙◌}
 use Rattle.fj_line.specs.Actions.{carried_out}
 use Rattle.fj_line.specs.Page.{at_hand}
-use Rattle.fj_list.specs.Items.{items_left, kind_ahead, values_ahead, values_in}
+use Rattle.fj_moved.specs.Items.{items_left, kind_ahead, values_ahead, values_in}
 use Rattle.fj_list.specs.Listing.{texts_behind}
 use Rattle.fj_list.proofs.Rows.{values_passed}
 use Rattle.fj_list.proofs.write.put_row.Goals as goal

@@ -1,4 +1,4 @@
-use Rattle.fj_list.specs.Items.{items_of, values_in}
+use Rattle.fj_moved.specs.Items.{items_of, values_in}
 use Rattle.fj_list.proofs.ReadAgain.{values_again}
 use Rattle.fj_list.proofs.write.write_list.Goals as goal
 

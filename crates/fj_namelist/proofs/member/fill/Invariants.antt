@@ -1,6 +1,6 @@
 use Rattle.std.proofs.Common.{◌≡◌, ℕ, ◌-◌, List, length}
 use Rattle.fj_value.specs.declared.value.Cell.{Cell}
-use Rattle.fj_list.specs.ListInput.{places_of}
+use Rattle.fj_moved.specs.Cells.{places_of}
 use Rattle.fj_namelist.specs.GroupInput.{Result, filled}
 use Rattle.fj_namelist.proofs.member.fill.Given as goal
 

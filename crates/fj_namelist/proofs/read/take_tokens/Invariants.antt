@@ -1,5 +1,5 @@
 use Rattle.std.proofs.Common.{◌≡◌, drop, length}
-use Rattle.fj_list.specs.ListInput.{places_of}
+use Rattle.fj_moved.specs.Cells.{places_of}
 use Rattle.fj_namelist.specs.GroupInput.{tokens_taken}
 use Rattle.fj_namelist.specs.declared.place.Place.TheVariants as place
 use Rattle.fj_namelist.specs.Walker.{IsPlace}

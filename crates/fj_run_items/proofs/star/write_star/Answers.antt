@@ -1,7 +1,7 @@
 use Rattle.std.specs.Prelude.{IfOk}
 use Rattle.std.proofs.Common.{◌≡◌, ◌||◌, not, true, false, List, ℕ, OnErr, refl, subst, arith}
 use Rattle.fj_value.specs.declared.condition.Condition.{Condition}
-use Rattle.fj_list.specs.declared.moved.Moved.{Moved}
+use Rattle.fj_moved.specs.declared.moved.Moved.{Moved}
 use Rattle.fj_meaning.specs.State.{Output}
 use Rattle.fj_meaning.specs.Telling.{is_asynchronous}
 use Rattle.fj_meaning.specs.Transfers.{layout_of}

@@ -1,6 +1,6 @@
 use Rattle.std.proofs.Common.{◌≡◌, [], length}
 use Rattle.fj_value.specs.declared.kind.Kind.{Kind}
-use Rattle.fj_list.specs.Load.{row_cells}
+use Rattle.fj_moved.specs.Load.{row_cells}
 use Rattle.fj_store.specs.Rows.{ArePut}
 use Rattle.fj_store.proofs.rows.put_values.Given as goal
 

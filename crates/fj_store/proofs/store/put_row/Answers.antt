@@ -1,5 +1,5 @@
 use Rattle.std.proofs.Common.{ap, ◌∙◌}
-use Rattle.fj_list.specs.Load.{row_cells}
+use Rattle.fj_moved.specs.Load.{row_cells}
 use Rattle.fj_store.specs.Tables.{with_cells}
 use Rattle.fj_store.specs.Taking.{home}
 use Rattle.fj_store.proofs.store.put_row.Goals as goal

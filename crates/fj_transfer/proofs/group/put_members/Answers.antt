@@ -3,7 +3,7 @@ use Rattle.std.proofs.lemmas.Result.{err_from_is_err_and}
 use Rattle.fj_line.specs.Actions.{carried_out}
 use Rattle.fj_line.specs.Page.{at_hand}
 use Rattle.fj_line.proofs.Carrying.{kept_on}
-use Rattle.fj_list.specs.declared.moved.GroupMember.{GroupMember}
+use Rattle.fj_moved.specs.declared.moved.GroupMember.{GroupMember}
 use Rattle.fj_namelist.specs.GroupText.{values_of, member_written, members_written}
 use Rattle.fj_transfer.specs.Printing.{record_actions}
 use Rattle.fj_transfer.proofs.GroupLemmas.{from_here, first_stops, carries_front, carries_member}

@@ -1,6 +1,6 @@
 use Rattle.std.proofs.Common.{refl}
 use Rattle.fj_line.specs.Page.{at_hand}
-use Rattle.fj_list.specs.Items.{items_left}
+use Rattle.fj_moved.specs.Items.{items_left}
 use Rattle.fj_transfer.specs.declared.writer.Writer.{Writer}
 use Rattle.fj_transfer.proofs.FillLemmas.{fills_all}
 use Rattle.fj_transfer.proofs.pieces.fill_records.Goals as goal

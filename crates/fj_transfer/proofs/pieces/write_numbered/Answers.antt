@@ -4,7 +4,7 @@ use Rattle.fj_span.specs.Change.{KeepsUpToChange}
 use Rattle.fj_modes.specs.declared.modes.Modes.{Modes}
 use Rattle.fj_connect.specs.Connection.{begun}
 use Rattle.fj_connect.specs.Linked.{connection_of}
-use Rattle.fj_list.specs.Items.{items_left, items_of}
+use Rattle.fj_moved.specs.Items.{items_left, items_of}
 use Rattle.fj_transfer.specs.Explicit.{explicit_actions}
 use Rattle.fj_transfer.specs.Places.{before_number}
 use Rattle.fj_transfer.specs.Printing.{printed_by}

@@ -1,6 +1,6 @@
 use Rattle.fj_line.specs.Actions.{first_record}
 use Rattle.fj_line.specs.Page.{at_hand}
-use Rattle.fj_list.specs.Items.{items_left, values_in}
+use Rattle.fj_moved.specs.Items.{items_left, values_in}
 use Rattle.fj_list.specs.Listing.{list_actions}
 use Rattle.fj_transfer.proofs.WriterLemmas.{is_appended, is_kept}
 use Rattle.fj_transfer.proofs.print.print_listed.Goals as goal

@@ -1,7 +1,7 @@
 use Rattle.std.proofs.Common.{◌+◌, List, get_or, drop, take, ap, sym, ◌∙◌, arith}
 use Rattle.fj_value.specs.declared.value.Cell.{Cell}
 use Rattle.fj_unfrec.specs.Stored.{value_of}
-use Rattle.fj_list.specs.ListInput.{kind_at, with_value}
+use Rattle.fj_moved.specs.Cells.{kind_at, with_value}
 use Rattle.fj_transfer.specs.Transfer.{widths, values_from}
 use Rattle.fj_transfer.proofs.StoredLemmas.{values_next, widths_next, widths_kept, rest_is}
 use Rattle.fj_transfer.proofs.stored.get_items.Goals as goal

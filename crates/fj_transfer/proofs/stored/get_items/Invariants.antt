@@ -1,5 +1,5 @@
 use Rattle.std.proofs.Common.{◌≡◌, ◌+◌, ◌≤◌, length, drop}
-use Rattle.fj_list.specs.ListInput.{places_of}
+use Rattle.fj_moved.specs.Cells.{places_of}
 use Rattle.fj_transfer.specs.Transfer.{widths, values_from}
 use Rattle.fj_transfer.proofs.stored.get_items.Given as goal
 

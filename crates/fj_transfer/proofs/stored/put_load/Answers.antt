@@ -1,6 +1,6 @@
 use Rattle.std.proofs.Common.{◌≡◌, ◌++◌, OnOk, ap, sym, subst, ◌∙◌}
 use Rattle.std.specs.List.{flat_map}
-use Rattle.fj_list.specs.Load.{moved_by, moved_row}
+use Rattle.fj_moved.specs.Load.{moved_by, moved_row}
 use Rattle.fj_unfrec.specs.Stored.{stored}
 use Rattle.fj_transfer.specs.Transfer.{body_of}
 use Rattle.fj_transfer.proofs.StoredLemmas.{row_stored}

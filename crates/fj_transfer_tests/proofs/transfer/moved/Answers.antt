@@ -2,8 +2,8 @@ use Rattle.std.proofs.Common.{rules, ◌≡◌, ℕ, ◌+◌, ◌<◌, All, List
 use Rattle.std.proofs.lemmas.List.Elements.{All-push}
 use Rattle.fj_value.specs.declared.place.Place.{Place}
 use Rattle.fj_value.specs.declared.value.Cell.{Cell}
-use Rattle.fj_list.specs.Moved.{AreDistinct}
-use Rattle.fj_list.proofs.MovedLemmas.{distinct_more, none_above}
+use Rattle.fj_moved.specs.Moved.{AreDistinct}
+use Rattle.fj_moved.proofs.MovedLemmas.{distinct_more, none_above}
 use Rattle.fj_transfer_tests.proofs.transfer.moved.Goals as goal
 
 pub loop-at-preserved : goal.loop-at-preserved

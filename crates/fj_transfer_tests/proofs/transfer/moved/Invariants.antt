@@ -1,7 +1,7 @@
 use Rattle.std.proofs.Common.{◌≡◌, ◌+◌, ◌<◌, length}
 use Rattle.std.specs.Prelude.{All}
 use Rattle.fj_value.specs.declared.value.Cell.{Cell}
-use Rattle.fj_list.specs.Moved.{AreDistinct}
+use Rattle.fj_moved.specs.Moved.{AreDistinct}
 use Rattle.fj_transfer_tests.proofs.transfer.moved.Given as goal
 
 abbrev pub invariant-loop-at : goal.invariant-loop-at

@@ -1,6 +1,6 @@
 use Rattle.std.proofs.Common.{◌≡◌, length}
 use Rattle.fj_control.specs.Walk.{due}
-use Rattle.fj_list.specs.ListInput.{places_of}
+use Rattle.fj_moved.specs.Cells.{places_of}
 use Rattle.fj_internal.specs.Records.{progress_of, records_behind, items_left, parts_left, taken_out, IsReady}
 use Rattle.fj_internal.proofs.reader.Reader.read_steps.Given as goal
 

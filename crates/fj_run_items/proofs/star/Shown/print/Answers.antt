@@ -1,5 +1,5 @@
 use Rattle.std.proofs.Common.{ap, subst, sym}
-use Rattle.fj_list.specs.declared.moved.Moved.{Moved}
+use Rattle.fj_moved.specs.declared.moved.Moved.{Moved}
 use Rattle.fj_transfer.specs.Printing.{actions_by, control_of, printed_by}
 use Rattle.fj_transfer.specs.Writing.{Prints}
 use Rattle.fj_run_items.specs.Shown.{IsShownBy, shown_cells}

@@ -1,6 +1,6 @@
 use Rattle.std.proofs.Common.{ap, sym, ◌∙◌}
-use Rattle.fj_list.specs.Items.{items_of}
-use Rattle.fj_list.proofs.ItemLemmas.{row_is}
+use Rattle.fj_moved.specs.Items.{items_of}
+use Rattle.fj_moved.proofs.ItemLemmas.{row_is}
 use Rattle.fj_store.proofs.lent.Lent.items.Goals as goal
 
 pub returns : goal.returns

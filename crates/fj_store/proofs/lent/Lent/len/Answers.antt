@@ -1,6 +1,6 @@
 use Rattle.std.proofs.Common.{length, ap, sym, ◌∙◌}
-use Rattle.fj_list.proofs.LoadLemmas.{row_length}
-use Rattle.fj_list.specs.declared.moved.Moved.{Moved}
+use Rattle.fj_moved.proofs.LoadLemmas.{row_length}
+use Rattle.fj_moved.specs.declared.moved.Moved.{Moved}
 use Rattle.fj_store.proofs.lent.Lent.len.Goals as goal
 
 pub returns : goal.returns

@@ -1,6 +1,6 @@
 use Rattle.std.proofs.Common.{◌∙◌, ap}
 use Rattle.fj_store.specs.Rows.{Halves}
-use Rattle.fj_list.specs.Load.{row_cells}
+use Rattle.fj_moved.specs.Load.{row_cells}
 use Rattle.fj_store.specs.Tables.{with_cells}
 use Rattle.fj_store.specs.Taking.{home}
 use Rattle.fj_store.proofs.RowLemmas.{in_values, is_there, missing_put, no_row}

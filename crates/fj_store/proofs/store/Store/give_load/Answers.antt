@@ -1,6 +1,6 @@
 use Rattle.std.proofs.Common.{ap}
-use Rattle.fj_list.specs.Load.{moved_row}
-use Rattle.fj_list.specs.declared.moved.Moved.{Moved}
+use Rattle.fj_moved.specs.Load.{moved_row}
+use Rattle.fj_moved.specs.declared.moved.Moved.{Moved}
 use Rattle.fj_store.proofs.StoreLemmas.{back_is}
 use Rattle.fj_store.proofs.store.Store.give_load.Goals as goal
 

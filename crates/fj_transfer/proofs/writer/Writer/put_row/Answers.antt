@@ -9,7 +9,7 @@ use Rattle.fj_line.specs.Records.{texts_from}
 use Rattle.fj_control.specs.Steps.{gives}
 use Rattle.fj_control.specs.Paired.{paired}
 use Rattle.fj_edit_out.proofs.Rows.{integers_few}
-use Rattle.fj_list.specs.Items.{of_kind, items_left, kind_ahead, values_ahead}
+use Rattle.fj_moved.specs.Items.{of_kind, items_left, kind_ahead, values_ahead}
 use Rattle.fj_transfer.specs.Explicit.{action_of}
 use Rattle.fj_transfer.specs.Writing.{actions_left}
 use Rattle.fj_transfer.proofs.RowLemmas.{row_actions, items_left_over}

@@ -1,0 +1,5 @@
+pub mod CellLemmas
+pub mod LoadLemmas
+pub mod ItemLemmas
+pub mod ElementLemmas
+pub mod MovedLemmas

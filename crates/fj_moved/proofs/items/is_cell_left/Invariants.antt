@@ -1,0 +1,9 @@
+use Rattle.std.proofs.Common.{◌≡◌, ◌-◌, length, drop}
+use Rattle.fj_moved.specs.Items.{in_cells}
+use Rattle.fj_moved.proofs.items.is_cell_left.Given as goal
+
+abbrev pub invariant-loop-at : goal.invariant-loop-at
+invariant-loop-at l = in_cells l.cells (drop l.at l.order) ≡ in_cells l.cells (drop l.from l.order)
+
+abbrev pub decreases-loop-at : goal.decreases-loop-at
+decreases-loop-at l = length l.order - l.at
