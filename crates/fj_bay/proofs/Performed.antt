@@ -17,7 +17,7 @@ use Rattle.fj_value.specs.declared.edit.EditModes.{EditModes}
 use Rattle.fj_transfer.specs.declared.transfer.Transfer.{Transfer}
 use Rattle.fj_transfer.specs.Printing.{control_of}
 use Rattle.fj_transfer.specs.Transfer.{in_error, transfer_by, transfer}
-use Rattle.fj_perform.specs.Performing.{comes_to, LeavesStatement}
+use Rattle.fj_transfer.specs.Performing.{comes_to, LeavesStatement}
 use Rattle.fj_slot.specs.Serving.{Serves}
 use Rattle.fj_bay.specs.Bay.{Bay as PlainBay}
 use Rattle.fj_bay.specs.Halt.{halt_behind, unless_halted}

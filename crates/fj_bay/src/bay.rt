@@ -2,7 +2,7 @@
 ghost use Rattle.std.specs.Prelude.{◌≡◌, None, Some, Err, IsSome, IfOk};
 ghost use Rattle.fj_outside.specs.Faults.{Rose};
 ghost use Rattle.fj_connect.specs.Connection.{Connection as Connected};
-ghost use Rattle.fj_perform.specs.Performing.{comes_to, LeavesStatement};
+ghost use Rattle.fj_transfer.specs.Performing.{comes_to, LeavesStatement};
 ghost use Rattle.fj_transfer.specs.Transfer.{in_error};
 ghost use Rattle.fj_slot.specs.Serving.{Serves};
 ghost use Rattle.fj_bay.specs.Halt.{halt_behind};

@@ -7,7 +7,7 @@ ghost use Rattle.fj_moved.specs.Cells.{places_of};
 ghost use Rattle.fj_moved.specs.Load.{with_undefined};
 ghost use Rattle.fj_moved.specs.Moved.{IsOrdered};
 ghost use Rattle.fj_namelist.specs.GroupText.{IsWithin};
-ghost use Rattle.fj_perform.specs.Performing.{LeavesStatement};
+ghost use Rattle.fj_transfer.specs.Performing.{LeavesStatement};
 ghost use Rattle.fj_control.specs.Steps.{steps};
 ghost use Rattle.fj_control.specs.Paired.{paired};
 ghost use Rattle.fj_transfer.specs.Change.{changed};

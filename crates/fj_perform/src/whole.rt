@@ -11,7 +11,7 @@ ghost use Rattle.fj_transfer.specs.Change.{changed};
 ghost use Rattle.fj_transfer.specs.Printing.{control_of};
 ghost use Rattle.fj_transfer.specs.Transfer.{unfit, begins_at, in_error, read_by, from_place, transfer};
 ghost use Rattle.fj_perform.specs.Front.{started, follows, IsStart};
-ghost use Rattle.fj_perform.specs.Performing.{comes_to, LeavesStatement};
+ghost use Rattle.fj_transfer.specs.Performing.{comes_to, LeavesStatement};
 
 use crate::input::read_from;
 use crate::output::write_from;

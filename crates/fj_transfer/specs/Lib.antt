@@ -7,6 +7,7 @@ pub mod Input
 pub mod Printing
 pub mod Places
 pub mod Transfer
+pub mod Performing
 pub mod Reader
 pub mod Ahead
 pub mod TransferLaws

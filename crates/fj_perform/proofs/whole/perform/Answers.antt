@@ -7,7 +7,7 @@ use Rattle.fj_modes.specs.declared.modes.Modes.{Modes}
 use Rattle.fj_connect.specs.Linked.{connection_of}
 use Rattle.fj_transfer.specs.Printing.{control_of}
 use Rattle.fj_transfer.specs.Transfer.{Done, unfit}
-use Rattle.fj_perform.specs.Performing.{comes_to}
+use Rattle.fj_transfer.specs.Performing.{comes_to}
 use Rattle.fj_perform.proofs.Carried.{transfer_fit, transfer_unfit}
 use Rattle.fj_perform.proofs.whole.perform.Goals as goal
 

@@ -5,7 +5,7 @@ use Rattle.fj_span.specs.Change.{KeepsUpToChange}
 use Rattle.fj_connect.specs.Linked.{connection_of}
 use Rattle.fj_transfer.specs.Printing.{control_of}
 use Rattle.fj_transfer.specs.Transfer.{Done, from_place}
-use Rattle.fj_perform.specs.Performing.{comes_to}
+use Rattle.fj_transfer.specs.Performing.{comes_to}
 use Rattle.fj_perform.proofs.Carried.{read_begins}
 use Rattle.fj_perform.proofs.whole.perform_fit.Goals as goal
 
