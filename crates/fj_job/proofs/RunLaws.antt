@@ -25,6 +25,9 @@ use Rattle.fj_job.specs.declared.task.Task.TheVariants.{Refuse, Check, Execute, 
 pub run_for : (task other : Task) (status : Status) (source sink : Seen (List ℕ)) (disk : Seen OnDisk) → task ≡ other → HasRun task status source sink disk → HasRun other status source sink disk
 run_for task other status source sink disk e t = subst (λ (x : Task). HasRun x status source sink disk) e t
 
+pub execute_for : (task other : Task) (P : Lines → Type 0) → task ≡ other → IfExecute task P → IfExecute other P
+execute_for task other P e p = subst (λ (x : Task). IfExecute x P) e p
+
 -- where no cause of a fault is there, it is no fault
 pub fine_by : (status : Status) (R W D : Type 0) → HasCause R W D status → (R → ⊥) → (W → ⊥) → (D → ⊥) → (status ≡ Memory) ⊎ IsAnswer status
 fine_by Ended R W D c r w d = inr tt

@@ -25,7 +25,11 @@ nothing_polled tells_in left count_in tells_out taken count_out tells held count
   goes_on = ((λ t. t, λ t. t), omega arith);
 }
 nothing_polled tells_in left count_in tells_out taken count_out tells held count refusals (Some workers) source out disk free =
-    inl (record { disk_is = refl; ran = run_nothing _ _ _ _ refl refl free refl refl refl (((λ t. t, λ t. t), omega arith), ((λ t. t, λ t. t), omega arith), ((λ t. t, λ t. t), omega arith)) })
+    inl (record {
+      disk_is = refl;
+      unread = record { is = inr (inl refl); taken = λ t w. inl refl };
+      ran = run_nothing _ _ _ _ refl refl free refl refl refl (((λ t. t, λ t. t), omega arith), ((λ t. t, λ t. t), omega arith), ((λ t. t, λ t. t), omega arith));
+    })
 
 -- they are no form
 pub refused_polled : {R W D : Type 0} (tells_in : R → Type 0) (left : R → List ℕ) (count_in : R → ℕ) (tells_out : W → Type 0) (taken : W → List ℕ) (count_out : W → ℕ)

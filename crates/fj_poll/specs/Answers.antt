@@ -13,6 +13,7 @@ use Rattle.fj_run_script.specs.declared.looking.Look.{Look}
 use Rattle.fj_job.specs.declared.ending.Carried.{Carried}
 use Rattle.fj_job.specs.declared.task.Task.TheVariants.{Execute}
 use Rattle.fj_job.specs.Answers.{HasRun, HasCause, IsAnswer, IsLost}
+use Rattle.fj_job.specs.Asking.{WasUnread}
 use Rattle.fj_job.specs.Executing.{IsCarriedOut, IsExecuted}
 use Rattle.fj_job.specs.Seen.{on_disk, seen}
 use Rattle.fj_poll.specs.Lines.{look_lines}
@@ -64,9 +65,10 @@ module _ {R W D : Type 0} (tells_in : R → Type 0) (left : R → List ℕ) (cou
     pub cause : HasCause ⊥ (Rose (count_out out) (count_out out')) ⊥ status
     pub goes_on : (tells_out out ↔ tells_out out') × (count_out out ≤ count_out out')
 
-  -- No deck was carried out: it is answered as the words of a run are, and nothing is done with the disk.
+  -- No deck was read: that is answered as the words of a run are, and nothing is done with the disk.
   pub record NoneCarriedOut (workers : ℕ) (source : R) (out : W) (disk : D) (status : Status) (source' : R) (out' : W) (disk' : D) : Type 0 where
     pub disk_is : disk' ≡ disk
+    pub unread : WasUnread status (seen tells_in left count_in source source') (seen tells_out taken count_out out out')
     pub ran : HasRun (Execute workers false) status (seen tells_in left count_in source source') (seen tells_out taken count_out out out')
         (seen tells (on_disk held refusals) count disk disk')
 

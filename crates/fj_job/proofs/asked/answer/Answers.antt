@@ -1,7 +1,7 @@
 use Rattle.std.proofs.Common.{inl, refl, sym, arith}
 use Rattle.fj_job.specs.declared.task.Task.TheVariants.{Refuse, Check, Execute, Generate}
 use Rattle.fj_job.proofs.ReplyLaws.{ended_by}
-use Rattle.fj_job.proofs.RunLaws.{run_for, run_without, run_refused, run_unread, no_words, no_check, cause_more, no_read}
+use Rattle.fj_job.proofs.RunLaws.{run_for, execute_for, run_without, run_refused, run_unread, no_words, no_check, cause_more, no_read}
 use Rattle.fj_job.proofs.asked.answer.Goals as goal
 
 pub returns-in-Refuse : goal.returns-in-Refuse
@@ -16,6 +16,7 @@ returns-in-Refuse g c =
               changed = λ t. inl tt;
               untold = λ e. no_read c.refuse_words.result _ _ _ c.refuse_words.ensures.cause e;
             }) (((λ t. t, λ t. t), omega arith), (c.refuse_words.ensures.telling, c.refuse_words.ensures.later)));
+        unread = execute_for Refuse c.args.task _ (sym c.in-Refuse.is) tt;
         is_deck = λ t. tt;
         sound = tt;
         task_is = tt;
@@ -41,6 +42,7 @@ returns-in-Check g c =
           changed = λ t. inl tt;
           untold = it.untold;
         }) ((it.deck_telling, it.deck_later), (it.out_telling, it.out_later)));
+        unread = execute_for Check c.args.task _ (sym c.in-Check.is) tt;
         is_deck = λ t. tt;
         sound = tt;
         task_is = tt;
@@ -53,6 +55,7 @@ pub returns-in-Ok : goal.returns-in-Ok
 returns-in-Ok g c = record {
   asked = record {
     told = λ disk. tt;
+    unread = tt;
     is_deck = c.in-Ok.ensures.deck;
     sound = c.in-Ok.ensures.sound.0;
     task_is = c.in-Execute.is;
@@ -74,6 +77,7 @@ returns-in-Err g c =
               changed = λ t. inl tt;
               untold = c.in-Err.ensures.untold;
             }) ((c.deck_of.ensures.deck_telling, c.deck_of.ensures.deck_later), (c.deck_of.ensures.out_telling, c.deck_of.ensures.out_later)));
+        unread = execute_for task c.args.task _ (sym c.in-Execute.is) (record { is = c.in-Err.ensures.refused; taken = c.in-Err.ensures.front });
         is_deck = λ t. tt;
         sound = tt;
         task_is = tt;
@@ -100,6 +104,7 @@ returns-in-Generate g c =
           changed = λ t. inl tt;
           untold = λ e. no_read c.make.result _ _ _ it.cause e;
         }) (((λ t. t, λ t. t), omega arith), (it.telling, it.later)));
+        unread = execute_for task c.args.task _ (sym c.in-Generate.is) tt;
         is_deck = λ t. tt;
         sound = tt;
         task_is = tt;

@@ -4,7 +4,9 @@ use Rattle.fj_poll.specs.Answers.{IsExecutedPolled}
 use Rattle.fj_poll.proofs.poll.poll_with.Goals as goal
 
 pub returns-in-Answered : goal.returns-in-Answered
-returns-in-Answered g c = inl (record { disk_is = refl; ran = answered_told _ _ _ _ _ _ refl (rw c.in-Answered.is at c.answer.ensures.asked) refl refl ((λ t. t, λ t. t), omega arith) c.requires })
+returns-in-Answered g c =
+    let asked = rw c.in-Answered.is at c.answer.ensures.asked in
+    inl (record { disk_is = refl; unread = asked.unread; ran = answered_told _ _ _ _ _ _ refl asked refl refl ((λ t. t, λ t. t), omega arith) c.requires })
 
 pub returns-in-Deck : goal.returns-in-Deck
 returns-in-Deck g c =
