@@ -26,7 +26,9 @@ pub enum BatchStatus {
     Ran { exit: u8 },
     /// The words are no form, or do not name the members.
     Usage,
+    /// The sink failed.
     WriteFault,
+    /// A growth was refused.
     Memory,
 }
 
@@ -69,8 +71,10 @@ fn conclude<R, D, W: Sink>(alloc: Global, members: &[Member<R, D>], out: &mut W)
     }
 }
 
-/// Runs the members of a batch, each by itself on a thread of its own, as the words ask for. Then it prints what each of them printed behind its name,
-/// in order, and how many ended. `heard` is told of each member as it ends, on that member's thread.
+/// Runs the members of a batch, each by itself on a thread of its own, as the words ask for. Then it prints what each of them
+/// printed after its name, in order, and how many ended. `heard` is told of each member as it ends, on that member's thread.
+/// `Usage` comes for words that do not fit, and no member is run then; `WriteFault` comes where the sink failed; after `Memory` all
+/// members were run or none.
 pub fn run_batch<
     Rt: Threads + Wait + Sync,
     R: Source + Send,

@@ -12,7 +12,8 @@ use std::alloc::Global;
 /// The longest text, in bytes.
 pub const MAX_TEXT: usize = 4_194_304;
 
-/// The deck that a text is, or the first line that is refused. Lines are numbered from 1.
+/// The deck that a text is, or the first line that is refused, with the first of the reasons in the order of `Reason`. Lines are
+/// numbered from 1. A text has at most 4,194,304 bytes, and a line 1,000.
 pub fn parse_deck(alloc: Global, text: &[u8]) -> Result<Deck, DeckFault>
     ensures answer { Reads text.now result }
     ensures sound { IfOk result IsSound }

@@ -1,4 +1,4 @@
-// Elements one after another, as the records that list-directed and namelist input looks at.
+// Elements one after another, as the records that list-directed and namelist input looks at (ISO/IEC 1539-1:2004, 9.3).
 use crate::elements::characters;
 use fj_list::{More, Records};
 use fj_modes::LONGEST_FORMATTED;

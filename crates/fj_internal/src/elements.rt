@@ -1,4 +1,4 @@
-// The elements of an internal file as its records.
+// The elements of an internal file as its records (ISO/IEC 1539-1:2004, 9.3).
 ghost use Rattle.std.specs.Prelude.{◌≡◌, ◌≤◌, length};
 ghost use Rattle.std.specs.List.{list_any};
 ghost use Rattle.fj_internal.specs.Internal.{characters_of, holds_line_end, records_of, record_length, set_first};

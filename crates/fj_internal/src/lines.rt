@@ -1,4 +1,4 @@
-// What a WRITE wrote, cut into records.
+// What a WRITE wrote, cut into records (ISO/IEC 1539-1:2004, 9.3).
 ghost use Rattle.std.specs.Prelude.{◌≡◌, ◌<◌, ◌≤◌, length, map, take, IfOk, IfSome, IfNone};
 ghost use Rattle.std.specs.Str.Lines.{strip_carriage_return};
 ghost use Rattle.fj_seqrec.specs.Lines.{lines, first_line, behind_line};

@@ -56,8 +56,8 @@ fn one_text(bytes: Text, ends: bool, size: u32) -> Result<One, AllocError>
     }
 }
 
-/// What a WRITE of items puts into an internal file of one element of a length, as `write_internal` puts it. The text that is
-/// printed becomes the value.
+/// What a WRITE of items puts into an internal file of one element of a length, as `write_internal` puts it, with its conditions
+/// (ISO/IEC 1539-1:2004, 9.3). The text that is printed becomes the value.
 pub fn write_one(
     alloc: Global,
     size: u32,

@@ -237,8 +237,9 @@ fn read_records(
     Ok(performed.condition)
 }
 
-/// Carries out a READ on an internal file. The values, what SIZE= gets and the condition are those of the transfer on a file of
-/// these records, or error 32 where an element holds a line feed or a carriage return. The elements are read where they stand.
+/// Carries out a READ on an internal file (ISO/IEC 1539-1:2004, 9.3). The values, what SIZE= gets and the condition are those of
+/// the transfer on a file of these records, or `LINE_END_HELD` (32) where an element holds a line feed or a carriage return; an
+/// unformatted one is `UNFIT` (16). The elements are read where they stand.
 pub fn read_internal(
     alloc: Global,
     elements: &Cells,

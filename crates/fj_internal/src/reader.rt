@@ -1,4 +1,4 @@
-// Format control carried out on the items of a READ, over elements as records.
+// Format control carried out on the items of a READ, over elements as records (ISO/IEC 1539-1:2004, 10.3).
 ghost use Rattle.std.specs.Prelude.{◌≡◌, ◌≢◌, ◌+◌, ◌<◌, ◌≤◌, ◌^◌, ◌∷◌, List, ℕ, length, IfOk, Ok, Some, None};
 ghost use Rattle.fj_value.specs.declared.value.Cell.{Cell};
 ghost use Rattle.fj_line.specs.Line.{position_behind};

@@ -100,7 +100,8 @@ fn take_listed(
     Ok(leave(&mut moved.cells, None, condition))
 }
 
-/// What a READ of items takes from an internal file of one element of these characters, as `read_internal` takes it.
+/// What a READ of items takes from an internal file of one element of these characters, as `read_internal` takes it, with its
+/// conditions (ISO/IEC 1539-1:2004, 9.3).
 pub fn read_one(
     alloc: Global,
     text: &[u8],

@@ -65,9 +65,10 @@ fn put_text(
     }
 }
 
-/// Carries out a WRITE on an internal file. Its records replace the first elements, each filled up with blanks, or it is error 31
-/// where they are more than the elements; the other elements keep their values. A condition other than `Fine`, and want of memory,
-/// leave all elements.
+/// Carries out a WRITE on an internal file (ISO/IEC 1539-1:2004, 9.3). Its records replace the first elements, each filled up with
+/// blanks; the other elements keep their values. The condition is that of the transfer on an empty file whose records have the
+/// length of an element, or `TOO_MANY_RECORDS` (31) where the records are more than the elements. A condition other than `Fine`,
+/// and want of memory, leave all elements.
 pub fn write_internal(
     alloc: Global,
     elements: &mut Cells,

@@ -73,7 +73,7 @@ fn deck_of<R: Source, W: Sink>(alloc: Global, deck: &mut R, out: &mut W) -> Resu
     }
 }
 
-/// Does with a source what is asked for, but for carrying out a deck.
+/// Does with a source what is asked for, but for carrying out a deck: answers, or hands out the deck that was read.
 pub fn answer<R: Source, W: Sink>(alloc: Global, task: Task, deck: &mut R, out: &mut W) -> Asked
     ensures asked { IsAsked task (seen R.tells R.left R.count deck.old deck.new) (seen W.tells W.taken W.count out.old out.new) result }
 {

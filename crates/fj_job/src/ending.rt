@@ -316,7 +316,7 @@ fn report<F: FileStore, W: Sink>(
     }
 }
 
-/// Reports a run, if there was memory to begin it.
+/// Reports a run, if there was memory to begin it: how it ended, or `DiskFault`, `WriteFault` or `Memory`.
 pub fn conclude<F: FileStore, W: Sink>(
     alloc: Global,
     middle: Middle<'_>,

@@ -14,7 +14,10 @@ use std::alloc::Global;
 use std::sync::Wait;
 use std::thread::Threads;
 
-/// Runs, checks or makes a deck on one thread; `run` is no form here. `stmt` of a fault is the line of the statement at hand.
+/// Runs, checks or makes a deck on one thread; `run` is no form here. Words that are no form are `Usage`, and a text that is no
+/// deck `DeckRefused`; a deck that is carried out comes to `Ended`, `ErrorStop` or `Prohibited`. `ReadFault` is of the source,
+/// `WriteFault` of the sink, `DiskFault` of the disk and its files, each only where one of these failed; `Memory` is want of
+/// memory. `stmt` of a fault is the line of the statement at hand.
 pub fn alone_job<R: Source, W: Sink, D: Disk>(
     alloc: Global,
     words: &[String],
@@ -39,8 +42,8 @@ pub fn alone_job<R: Source, W: Sink, D: Disk>(
     }
 }
 
-/// Runs a deck with so many threads beside the calling one as the words ask for, or does what `alone_job` does with the other words. For every
-/// number of them and every order of their steps it answers, prints and leaves the same.
+/// Runs a deck with so many threads beside the calling one as the words ask for, or does what `alone_job` does with the other
+/// words; the answers are the same. For every number of them and every order of their steps it answers, prints and leaves the same.
 pub fn run_job<Rt: Threads + Wait + Sync, R: Source, W: Sink + Send, D: Disk + Send>(
     rt: &Rt,
     alloc: Global,

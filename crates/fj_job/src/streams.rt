@@ -9,7 +9,7 @@ use std::alloc::Global;
 /// The greatest length of a deck's text, in bytes.
 pub const MAX_TEXT: usize = 4_194_304;
 
-/// Reads a source to its end, or past the greatest deck text.
+/// Reads a source to its end, or past 4,194,304 bytes, the greatest deck text.
 pub fn read_text<R: Source>(alloc: Global, source: &mut R) -> Result<Vec<u8>, Stop>
     ensures telling { R.tells source.old ↔ R.tells source.new }
     ensures text { R.tells source.old → IfOk result (λ text. IsReadOf MAX_TEXT (R.left source.old) text.items) }

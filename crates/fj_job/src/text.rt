@@ -53,7 +53,8 @@ pub fn refuse_words<W: Sink>(out: &mut W) -> Status
     }
 }
 
-/// A text that is to be carried out: it is a deck, or what it is refused for is reported.
+/// A text that is to be carried out: it is a deck, or what it is refused for is reported: `DeckRefused`, or `WriteFault` or
+/// `Memory` where it could not be.
 pub fn read_deck<W: Sink>(alloc: Global, text: &[u8], out: &mut W) -> Result<Deck, Status>
     ensures deck { IfOk result (λ deck. IsDeck text.now deck × IsSound deck × (out.new ≡ out.old)) }
     ensures refused { IfErr result (λ status. IsUnread status (Unit {0}) text.now) }

@@ -19,7 +19,7 @@ fn not_taken(lost: Lost) -> Status
     }
 }
 
-/// Writes a text, or answers why it was not written whole.
+/// Writes a text, or answers why it was not written whole: `WriteFault` or `Memory`. A part of it may be written then.
 pub fn write_text<W: Sink>(out: &mut W, text: &[u8]) -> Result<(), Status>
     ensures telling { W.tells out.old ↔ W.tells out.new }
     ensures ok { W.tells out.old → OnOk result (W.taken out.new ≡ W.taken out.old ++ text.now) }

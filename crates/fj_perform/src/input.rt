@@ -1,4 +1,4 @@
-// A READ from the place where it begins (ISO/IEC 1539-1:2004, 9.5.4), by its layout and the access.
+// A READ from the place where it begins (ISO/IEC 1539-1:2004, 9.5.3), by its layout and the access.
 ghost use Rattle.std.specs.Prelude.{◌≡◌, ◌<◌, ◌≤◌, ◌^◌, ◌↔◌, true, false, length, IfOk, OnErr, All, None};
 ghost use Rattle.fj_value.specs.declared.condition.Condition.TheVariants.{Fine};
 ghost use Rattle.fj_outside.specs.Faults.{Rose};

@@ -1,4 +1,4 @@
-// A WRITE from the place where it begins (ISO/IEC 1539-1:2004, 9.5.4), by its layout and the access.
+// A WRITE from the place where it begins (ISO/IEC 1539-1:2004, 9.5.3), by its layout and the access.
 ghost use Rattle.std.specs.Prelude.{◌≡◌, ◌≤◌, ◌↔◌, false, is_some, IfOk, OnErr};
 ghost use Rattle.fj_value.specs.declared.condition.Condition.TheVariants.{Fine};
 ghost use Rattle.fj_outside.specs.Faults.{Rose};

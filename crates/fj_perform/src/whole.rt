@@ -98,9 +98,11 @@ fn perform_fit<F: FileStore>(
     Ok(condition)
 }
 
-/// Carries out a READ or WRITE. The condition, the values, what SIZE= gets and the connection are those of the transfer. After
-/// a `Stop` nothing is said of the values, of what SIZE= gets and of the position, and the file's bytes are as before up to the
-/// first that was to change.
+/// Carries out a READ or WRITE (ISO/IEC 1539-1:2004, 9.5). The condition, the values, what SIZE= gets and the connection are those
+/// of the transfer: `UNFIT` (16) where it does not go together with the connection, then `FORBIDDEN_ACTION` (10), `AFTER_ENDFILE`
+/// (20), `NO_SUCH_PLACE` (21), then what comes of its layout (`read_lines`, `write_lines` and the others of `fj_transfer`). After a
+/// `Stop` nothing is said of the values, of what SIZE= gets and of the position, and the file's bytes are as before up to the first
+/// that was to change.
 pub fn perform<F: FileStore>(
     alloc: Global,
     connection: &mut Connection<F>,

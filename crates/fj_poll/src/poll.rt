@@ -42,9 +42,10 @@ where
     }
 }
 
-/// Runs a deck with so many threads beside the calling one as the words ask for, as `run_job` does, but that INQUIRE with PENDING= is answered by what
-/// they have done by then: false, after it waited for them, where all transfers that it asks about are done, and else true. The report has a
-/// line for each such look. Which looks come is not promised.
+/// Runs a deck with so many threads beside the calling one as the words ask for, as `run_job` does and with its answers, but that
+/// INQUIRE with PENDING= (ISO/IEC 1539-1:2004, 9.9.1) is answered by what they have done by then: false, after it waited for them,
+/// where all transfers that it asks about are done, and else true. The report has a line for each such look. Which looks come is
+/// not promised.
 pub fn poll_job<Rt: Threads + Wait + Sync, R: Source, W: Sink + Send, D: Disk + Send>(
     rt: &Rt,
     alloc: Global,

@@ -1,4 +1,4 @@
--- What READs and WRITEs leave in their cells: values of their kinds, or undefined ones (ISO/IEC 1539-1:2004, 9.5.4.4).
+-- What READs and WRITEs leave in their cells: values of their kinds, or undefined ones (ISO/IEC 1539-1:2004, 9.5.3.4).
 use Rattle.std.specs.Prelude.{◌≡◌, ℕ, List, take, drop, All}
 use Rattle.fj_value.specs.declared.value.Cell.{Cell}
 use Rattle.fj_control.specs.Steps.{Given}

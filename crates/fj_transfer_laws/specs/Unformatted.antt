@@ -1,4 +1,4 @@
--- What unformatted WRITEs put, and READs of it (ISO/IEC 1539-1:2004, 9.5.4.4).
+-- What unformatted WRITEs put, and READs of it (ISO/IEC 1539-1:2004, 9.5.3.4.1).
 use Rattle.std.specs.Prelude.{◌≡◌, ◌≢◌, ℕ, ℤ, pos, ◌+◌, ◌<◌, true, false, List, length, take, drop, Option, Some, None, Ok}
 use Rattle.fj_value.specs.declared.condition.Condition.TheVariants.{Fine}
 use Rattle.fj_modes.specs.declared.specifiers.Access.TheVariants.{Sequential, Direct, Stream}
