@@ -1,0 +1,5 @@
+pub mod FieldProofs
+pub mod PassProofs
+pub mod StepProofs
+pub mod RecordProofs
+pub mod ReadProofs

@@ -1,0 +1,4 @@
+pub mod Fields
+pub mod Source
+pub mod Explicit
+pub mod Reads

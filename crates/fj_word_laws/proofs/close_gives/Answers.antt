@@ -1,0 +1,5 @@
+use Rattle.fj_word_laws.proofs.SpecifierProofs as laws
+use Rattle.fj_word_laws.proofs.close_gives.Goals as goal
+
+pub returns : goal.returns
+returns c = laws.close_gives
