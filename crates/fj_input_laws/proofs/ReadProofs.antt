@@ -89,7 +89,7 @@ serial_of : (c : Connection) (f : List FormatItem) (advance : Bool) (number plac
 serial_of c f advance number place edit fit none =
     let direct = same_access c.modes.access Direct in
     no_advance direct advance (
-      last_false (cond c.modes.formatted false true) (cond (is_some number) (not direct) direct) (is_some place && not (same_access c.modes.access Stream)) (direct && (not advance || false)) (is_forbidden c.modes.action true) fit
+    last_false (cond c.modes.formatted false true) (cond (is_some number) (not direct) direct) (is_some place && not (same_access c.modes.access Stream)) (direct && (not advance || false)) (is_forbidden c.modes.action true) fit
     ) none
 
 -- ---- cells that are undefined

@@ -93,7 +93,7 @@ module _ (r : Connection) (serial : is_direct r ≡ false) where
   rest_next true is = inl (
     ap (λ b. cond b [] (rest_of_record r ∷ records_to_come (past_record r))) is,
     ap (λ b. cond b (Err (Error 15)) (Ok (hand_by true))) is
-    ∙ ap (λ (c : Condition). Err c) (sym (ap (λ b. cond b (Error 15) (condition_to_come (past_record r))) is)),
+        ∙ ap (λ (c : Condition). Err c) (sym (ap (λ b. cond b (Error 15) (condition_to_come (past_record r))) is)),
   )
   rest_next false is = inr (
     ap (λ b. cond b [] (rest_of_record r ∷ records_to_come (past_record r))) is,
@@ -132,7 +132,7 @@ module _ (r : Connection) (serial : is_direct r ≡ false) where
         inl (
           ap (λ b. up_to_excess recl (lines b)) empty,
           at_line true (ltb recl (length (rest_of_record r))) (eq-eqb (length (bytes_behind r)) 0 nothing) refl
-          ∙ ap (λ (c : Condition). Err c) (sym (ap (λ b. behind_them recl (lines b)) empty)),
+              ∙ ap (λ (c : Condition). Err c) (sym (ap (λ b. behind_them recl (lines b)) empty)),
         )
   ]
     where
@@ -242,9 +242,9 @@ of_lines limit (line ∷ more) = either_end (ltb limit (length line)) (Error 15)
 pub behind_is_end : (b : Connection) (advance : Bool) (cells : List Cell) → IsEnd (source_at b advance cells).behind
 behind_is_end b advance cells =
     either_end (is_direct b) (Error 17) (condition_to_come b) (error_end 17) (
-      either_end (is_reading b.spot.within) _ _ (
-        either_end (rest_exceeds b) (Error 15) _ (error_end 15) (of_lines b.modes.recl (lines (bytes_behind (past_record b))))
-      ) (of_lines b.modes.recl (lines (bytes_behind b)))
+    either_end (is_reading b.spot.within) _ _ (
+    either_end (rest_exceeds b) (Error 15) _ (error_end 15) (of_lines b.modes.recl (lines (bytes_behind (past_record b))))
+    ) (of_lines b.modes.recl (lines (bytes_behind b)))
     )
 
 -- ---- the record at hand, by its number

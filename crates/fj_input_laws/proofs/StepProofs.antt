@@ -445,8 +445,8 @@ module _ (s : Source) (hand : ℕ → AtHand) (hands : AreHands s hand) (place :
   met _ _ (descriptor_is_for_others {modes = modes} {e = e} {cell = cell} never) = error_met (item modes e cell) 12 (stops_12 s hand place q at modes e cell back never)
   met _ _ (record_is_short {modes = modes} {e = e} {cell = cell} right short pad advance) =
       error_met (item modes e cell) 30 (
-        no_value s hand place q at modes e cell back right short pad
-        ∙ is_30 (field_width e (s.kinds cell)) (characters s place e cell) cell q (carried_out s.advance back) Undefined s.advance modes.pad advance pad
+      no_value s hand place q at modes e cell back right short pad
+      ∙ is_30 (field_width e (s.kinds cell)) (characters s place e cell) cell q (carried_out s.advance back) Undefined s.advance modes.pad advance pad
       )
   met _ _ (record_has_ended {modes = modes} {e = e} {cell = cell} right short pad advance) = lost_met modes e cell right short pad advance
   met _ _ (field_has_no_value {modes = modes} {e = e} {cell = cell} {condition = condition} right padded is) = value_met modes e cell condition right padded is

@@ -1,0 +1,4 @@
+pub mod Membership
+pub mod Elements
+pub mod Needed
+pub mod Named
