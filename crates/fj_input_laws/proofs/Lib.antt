@@ -3,3 +3,4 @@ pub mod PassProofs
 pub mod StepProofs
 pub mod RecordProofs
 pub mod ReadProofs
+pub mod FittingProofs
