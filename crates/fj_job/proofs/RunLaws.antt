@@ -14,7 +14,7 @@ use Rattle.fj_job.specs.Asking.{IsUnread}
 use Rattle.fj_job.specs.Concluding.{IsReplied}
 use Rattle.fj_job.specs.Taken.{IsReadOf}
 use Rattle.fj_job.proofs.ReplyLaws.{ended_by, lost_by, same_refusal}
-use Rattle.fj_job.specs.Answers.{IsAnswer, IsLost, IsOfRun, LeavesDisk, HasCause, IfEnded, IfRefused, IfFault, IfMemory, IfWriteFault, IfExecute, HasDeck, IsSomeRefusal, OfSource, OfDisk, Replied, AnswersRightly, TookFor, TookRefusal, HasRun, Keeps}
+use Rattle.fj_job.specs.Answers.{IsAnswer, IsLost, IsOfRun, LeavesDisk, HasCause, IfEnded, IfRefused, IfFault, IfMemory, IfWriteFault, IfExecute, IsAside, HasDeck, IsSomeRefusal, OfSource, OfDisk, Replied, AnswersRightly, TookFor, TookRefusal, HasRun, Keeps}
 use Rattle.fj_job.specs.Seen.{Seen, OnDisk, left_alone}
 use Rattle.fj_job.specs.Cut.{TookRun, TookReport, CutByDisk, CutBySink, CutByMemory}
 use Rattle.fj_job.proofs.Fronts.{fault_by, fault_more, want_by, want_at, write_by, write_at}
@@ -151,7 +151,7 @@ pub run_without : (task : Task) (status : Status) (source sink : Seen (List ℕ)
     → (source.tells → status ≡ WriteFault → IfExecute task (λ lines. IsSomeRefusal source.before))
     → (source.tells → IfExecute task (λ lines. sink.tells → TookRefusal source.before sink.before sink.after))
     → (OfSource task source.tells → sink.tells → TookFor task source.before (files_in disk.held.files) sink.before sink.after)
-    → HasCause source.rose sink.rose ⊥ status → Keeps task status source sink (left_alone disk) → source.goes_on × sink.goes_on → HasRun task status source sink (left_alone disk)
+    → HasCause ((IsAside task → ⊥) × source.rose) sink.rose ⊥ status → Keeps task status source sink (left_alone disk) → source.goes_on × sink.goes_on → HasRun task status source sink (left_alone disk)
 run_without task status source sink disk replied rightly written begun front cause keeps goes_on = record {
   replied = λ a t u. replied a t;
   rightly = rightly;
@@ -160,8 +160,8 @@ run_without task status source sink disk replied rightly written begun front cau
   memory = λ t u. want_by status _ (λ e. execute_more task _ _ (λ lines took. inl (tt, took)) (begun t));
   front = λ t u w. inl (front t w);
   keeps = keeps;
-  cause = cause;
-  fine = λ x y z. fine_by status _ _ _ cause x y z;
+  cause = cause_more status _ _ _ _ _ _ (λ x. x) (λ x. x) (λ x. absurd x) cause;
+  fine = λ x y z. fine_by status _ _ _ cause (λ r. x r.1) y z;
   back = λ empty. empty;
   goes_on = (goes_on.0, goes_on.1, tt);
 }
@@ -272,7 +272,7 @@ run_unread workers trace status source sink disk unread output front c keeps goe
       refused = λ t. refused_at status source.tells source.before unread t;
     })
     (λ t e. written_at status source.tells source.before unread t e) front (λ t w. refusal_taken workers trace source.before disk.held.files sink.before sink.after (front t w))
-    c keeps goes_on
+    (cause_more status _ _ _ _ _ _ (λ r. ((λ a. a), r)) (λ x. x) (λ x. x) c) keeps goes_on
 
 -- a refusal that is told, or what kept it from being told, where it is
 pub unread_of : (status : Status) (line : ℕ) (reason : Reason) (R : Type 0) (text : List ℕ) → (status ≡ DeckRefused line reason) ⊎ IsLost status → (R → IsRefused text line reason) → IsUnread status R text
@@ -306,7 +306,7 @@ run_over task status source sink disk is same goes_on empty t = subst (λ (after
     changed = λ r. inl same;
     untold = t.keeps.untold;
   };
-  cause = cause_more status _ _ _ _ _ _ (λ x. x) (λ x. x) (λ x. absurd x) t.cause;
+  cause = cause_more status _ _ _ _ _ _ (λ x. x) (λ x. x) (λ x. absurd x.1) t.cause;
   fine = λ x y z. t.fine x y (λ b. b);
   back = λ d. empty d;
   goes_on = (t.goes_on.0, t.goes_on.1, goes_on);
@@ -377,7 +377,7 @@ run_executed workers trace deck status source sink disk is replied fault written
     changed = λ t. inr (deck, is t);
     untold = λ e. no_read status _ _ _ c e;
   };
-  cause = cause_more status _ _ _ _ _ _ (λ x. absurd x) (λ x. x) (λ x. x) c;
+  cause = cause_more status _ _ _ _ _ _ (λ x. absurd x) (λ x. x) (λ x. (tt, x)) c;
   fine = λ x y z. fine_by status _ _ _ c (λ b. b) y z;
   back = back;
   goes_on = goes_on;

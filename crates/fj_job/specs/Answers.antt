@@ -133,6 +133,11 @@ abbrev pub OfDisk : Task → List ℕ → Type 0 → Type 0
 OfDisk (Execute workers trace) text P = IsSomeDeck text → P
 OfDisk _ text P = Unit {0}
 
+-- a deck may be carried out on the disk
+abbrev pub IsOnDisk : Task → Type 0
+IsOnDisk (Execute workers trace) = Unit {0}
+IsOnDisk _ = ⊥
+
 -- nothing is done with the source, nor with the disk
 abbrev pub IsAside : Task → Type 0
 IsAside Refuse = Unit {0}
@@ -194,8 +199,9 @@ pub record HasRun (task : Task) (status : Status) (source sink : Seen (List ℕ)
   pub front : OfSource task source.tells → OfDisk task source.before disk.tells → sink.tells → TookFor task source.before (files_in disk.before.held.files) sink.before sink.after
       ⊎ (disk.rose × TookFault task status source.before (files_in disk.before.held.files) sink.before sink.after)
   pub keeps : Keeps task status source sink disk
-  -- Each fault has its cause. Where no count rises the answer is that of a reply, or memory was wanting.
-  pub cause : HasCause source.rose sink.rose disk.rose status
+  -- Each fault has its cause; whatever the counts are, one of the source is met only where its text is asked for, and one of the disk
+  -- only where a deck may be carried out on it. Where no count rises the answer is that of a reply, or memory was wanting.
+  pub cause : HasCause ((IsAside task → ⊥) × source.rose) sink.rose (IsOnDisk task × disk.rose) status
   pub fine : (source.rose → ⊥) → (sink.rose → ⊥) → (disk.rose → ⊥) → (status ≡ Memory) ⊎ IsAnswer status
   -- Each file is back, whatever is answered; and the outside goes on telling, and counting.
   pub back : disk.tells → disk.after.held.in_use ≡ set.empty

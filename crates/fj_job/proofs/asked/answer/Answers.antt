@@ -35,7 +35,7 @@ returns-in-Check g c =
           no_form = λ q. no_words Check _ tt q;
           ended = it.ended;
           refused = it.refused;
-        }) (λ t e. tt) (λ t. tt) (λ t w. it.front disk.held.files t w) it.cause (record {
+        }) (λ t e. tt) (λ t. tt) (λ t w. it.front disk.held.files t w) (cause_more c.check_source.result _ _ _ _ _ _ (λ r. ((λ a. a), r)) (λ x. x) (λ x. x) it.cause) (record {
           aside = λ q. absurd q;
           check = λ e. tt;
           answer = λ l. tt;
