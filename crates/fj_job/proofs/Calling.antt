@@ -55,8 +55,8 @@ calls_nothing (statement.Transfer t) e c = cc
 calls_nothing statement.End e c = cc
 
 pub learn_nothing : SomeLearnNothing
-learn_nothing st s left before now e (inl (u, hurt)) = waits_nowhere s st.0.what u.number e u.waits
-learn_nothing st s left before now e (inr (called, rose)) = calls_nothing st.0.what e called
+learn_nothing deck files comes left before now e (inl it) = waits_nowhere comes.before comes.statement.0.what it.unit.number e it.unit.waits
+learn_nothing deck files comes left before now e (inr (called, rose)) = calls_nothing comes.statement.0.what e called
 
 -- ---- files that no unit has
 

@@ -67,6 +67,7 @@ use Rattle.fj_job.proofs.Leaving.{one_place, slots_hold, within}
 use Rattle.fj_job.proofs.Whole.{stopped_files}
 use Rattle.fj_job.proofs.Learning.{LearnsAt, none_left, at_before, learns_before, learns_at, SubmitsHand, submits_hand, asked_slot, settle_waits, asked_given}
 use Rattle.fj_job.proofs.Giving.{given_at}
+use Rattle.fj_job.proofs.Awaiting.{told_slots, stop_awaits}
 use Rattle.fj_job.proofs.Passes.{ends_so, some_statement}
 
 -- What a script shows is that of its machine, and what its calls may leave are those of a runner.
@@ -187,6 +188,7 @@ module _ {S W D F : Type 0} {ghosts : Ghosts F} (s : Shows S) (tells_out : W →
         let waits = settle_waits meaning s deck.variables (stated deck.statements) files (ends_so deck sound) (some_statement deck sound) alone.entries it.slot it.hand in
         let spares = each_stop_spares meaning s full deck.variables (stated deck.statements) files alone.entries it.slot rack it.hand sound_slots stopped in
         let there = slice_get_in rack.slots it.slot (subst (λ n. it.slot < n) alone.fits.same_slots (slice_get_within x.slots it.slot slot.0 slot.1)) in
+        let halted = it.halted slot.0 there.0 slot.1 there.1 in
         elim (each_asks meaning s deck.variables (stated deck.statements) files alone.entries) [
           | inl done ↦ absurd (let z : Settle it.slot ≡ Finished = sym it.hand ∙ done in cc)
           | inr y ↦
@@ -200,15 +202,10 @@ module _ {S W D F : Type 0} {ghosts : Ghosts F} (s : Shows S) (tells_out : W →
               (each_stop_holds meaning s deck.variables (stated deck.statements) files alone.entries it.slot rack it.hand sound_slots stopped))
               (subst (λ (o : Option (Linked F)). AreOut (kept_name o) (machine last).state.core.names (machine last).state.core.units) (sym nothing)
               (stopped_files told bytes left (machine last) x.script is waits spares.names have))
-              (stop_cause meaning rack (held (disk last)) (refusals disk0) (refusals (disk last)) deck files (machine last) x.script awaited.stop.index awaited.stop.statement it.slot both.0 awaited.stop.rest
-              (stops_are_awaited deck.variables (stated deck.statements) files it.slot x.script (desks_of meaning x.slots) awaited.stop) stopped
-              (λ free. record {
-                slot = it.slot;
-                ledger = there.0;
-                here = there.1;
-                free = free;
-                halted = (it.halted slot.0 there.0 slot.1 there.1).0;
-              }))
+              (stop_cause meaning rack (held (disk last)) (refusals disk0) (refusals (disk last)) deck files (machine last) x.script awaited.stop.index awaited.stop.statement it.slot there.0 there.1 halted.0 both.0
+              awaited.stop.rest (stops_are_awaited deck.variables (stated deck.statements) files it.slot x.script (desks_of meaning x.slots) awaited.stop)
+              (stop_awaits meaning deck.variables (stated deck.statements) files it.slot x.script x.slots slot.0 there.0
+              (told_slots meaning s deck.variables (stated deck.statements) files alone.entries it.slot it.hand) slot.1 (sound_slots.each it.slot slot.0 there.0 slot.1 there.1) halted.0 halted.1 awaited.stop))
         ]
 
     module _ (origin : List Stated) (rack : Rack E J A) (w : WasLostIn meaning s (first_run deck.variables origin files) fresh_slots (stated deck.statements) first last rack) where

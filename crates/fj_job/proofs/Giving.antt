@@ -1,11 +1,13 @@
 -- The jobs of the slots, each with the statement that gives it, where a run was cut; and so what is found of files that closing met.
-use Rattle.std.proofs.Common.{◌≡◌, ◌≢◌, ◌⊎◌, inl, inr, ℕ, ◌<◌, Bool, true, false, List, [], ◌∷◌, drop, length, Option, Some, None, slice_get, refl, ap, sym, ◌∙◌, subst, arith}
+use Rattle.std.proofs.Common.{◌≡◌, ◌≢◌, ◌⊎◌, inl, inr, ℕ, ◌<◌, Bool, true, false, List, [], ◌∷◌, drop, length, Option, Some, None, is_some, slice_get, refl, ap, sym, ◌∙◌, subst, arith}
 use Rattle.std.specs.Prelude.{◌||◌, ◌&&◌, ◌==◌}
 use Rattle.std.specs.Str.{bytes_eq}
 use Rattle.std.proofs.lemmas.Option.{slice_get_within}
+use Rattle.std.proofs.lemmas.Bool.Decides.{eqb_tells}
 use Rattle.std.proofs.lemmas.Slice.Eq.{bytes_eq-Decides}
 use Rattle.fj_outside.specs.Faults.{Rose}
 use Rattle.fj_statement.specs.declared.deck.Variable.{Variable}
+use Rattle.fj_slot.specs.Ledger.{Ledger}
 use Rattle.fj_slot.specs.Serving.{Meaning}
 use Rattle.fj_slot.specs.Sound.{IsSound}
 use Rattle.fj_world.specs.Losing.{SlotsHold}
@@ -75,6 +77,30 @@ abbrev pub LeavesShort : List Variable → List Stated → Files → Files → �
 LeavesShort variables deck files left last before now name =
     (short : IsLeftShort variables deck files last name (left name)) × (short.leaves.before.modes.scratch ≡ true → (left name ≡ None) ⊎ Rose before now)
 
+-- and of a unit it is a job of its slot; where that has stopped, the very one in which it did
+unit_short : {E J A : Type 0} (m : Meaning E J A Bay Job Answer) (rack : Rack E J A) (variables : List Variable) (deck : List Stated) (files left : Files) (last : ℕ) (before now : ℕ) (u : Connected) (l : Ledger E J A)
+    → slice_get rack.slots u.slot ≡ Some l → ((s : Bay) (ts : List Job) → IsSound (over_bays m) s ts l → IsLeftBehind l s ts u.name (left u.name) before now) → HoldsGiven variables deck files m rack last
+    → (x : LeavesShort variables deck files left last before now u.name) × (x.0.slot ≡ u.slot) × (is_some l.halt ≡ true → x.0.number ≡ l.done)
+unit_short m rack variables deck files left last before now u l at found given =
+    let q = given u.slot l at in
+    let short = found q.0.start q.0.jobs q.1 in
+    let it = short.some in (
+      (
+        record {
+          slot = u.slot;
+          number = it.number;
+          bay = _;
+          job = it.job;
+          gives = q.2 it.number it.job it.at;
+          behind_them = λ other was. let done = q.3 other was in let from = short.from in omega (arith, done, from);
+          leaves = it.leaves;
+        },
+        short.gone,
+      ),
+      refl,
+      short.stopped,
+    )
+
 pub left_short : {E J A : Type 0} (m : Meaning E J A Bay Job Answer) (rack : Rack E J A) (variables : List Variable) (deck : List Stated) (files left : Files) (last : ℕ) (before now : ℕ) (name : List ℕ) (us : List Connected)
     → OfEach us rack.slots (λ u l. (s : Bay) (ts : List Job) → IsSound (over_bays m) s ts l → IsLeftBehind l s ts u.name (left u.name) before now) → HoldsGiven variables deck files m rack last → has_name us name ≡ true
     → LeavesShort variables deck files left last before now name
@@ -84,26 +110,38 @@ left_short m rack variables deck files left last before now name (u ∷ us) each
     here : name ≡ u.name → LeavesShort variables deck files left last before now name
     here same =
         let l = each.0 in
-        let q = given u.slot l.0 l.1 in
-        let short = l.2 q.0.start q.0.jobs q.1 in
-        let it = short.some in
-        subst (LeavesShort variables deck files left last before now) (sym same) (
-          record {
-            slot = u.slot;
-            number = it.number;
-            bay = _;
-            job = it.job;
-            gives = q.2 it.number it.job it.at;
-            behind_them = λ other was. let done = q.3 other was in let from = short.from in omega (arith, done, from);
-            leaves = it.leaves;
-          },
-          short.gone,
-        )
+        subst (LeavesShort variables deck files left last before now) (sym same) (unit_short m rack variables deck files left last before now u l.0 l.1 l.2 given).0
 
     by : (b : Bool) → bytes_eq name u.name ≡ b → (has_name us name ≡ true → LeavesShort variables deck files left last before now name) → (b || has_name us name) ≡ true
         → LeavesShort variables deck files left last before now name
     by true is later h = here ((bytes_eq-Decides name u.name).0 is)
     by false is later h = later h
+
+-- of a slot that has stopped, it is that job
+abbrev pub StopsShort : List Variable → List Stated → Files → Files → ℕ → ℕ → ℕ → List ℕ → Type 0
+StopsShort variables deck files left last slot number name = (short : IsLeftShort variables deck files last name (left name)) × (short.slot ≡ slot) × (short.number ≡ number)
+
+pub stopped_short : {E J A : Type 0} (m : Meaning E J A Bay Job Answer) (rack : Rack E J A) (variables : List Variable) (deck : List Stated) (files left : Files) (last : ℕ) (before now : ℕ) (name : List ℕ) (slot : ℕ) (l : Ledger E J A)
+    (us : List Connected) → slice_get rack.slots slot ≡ Some l → is_some l.halt ≡ true
+    → OfEach us rack.slots (λ u l. (s : Bay) (ts : List Job) → IsSound (over_bays m) s ts l → IsLeftBehind l s ts u.name (left u.name) before now) → HoldsGiven variables deck files m rack last → has_file us slot name ≡ true
+    → StopsShort variables deck files left last slot l.done name
+stopped_short m rack variables deck files left last before now name slot l [] at halted each given e = cc
+stopped_short {E} {J} {A} m rack variables deck files left last before now name slot l (u ∷ us) at halted each given e =
+    by (u.slot == slot) (bytes_eq name u.name) refl refl (λ h. stopped_short m rack variables deck files left last before now name slot l us at halted each.1 given h) e
+  where
+    here : u.slot ≡ slot → name ≡ u.name → StopsShort variables deck files left last slot l.done name
+    here there named =
+        let k = each.0 in
+        let same : k.0 ≡ l = (let e : Some k.0 ≡ Some l = sym k.1 ∙ ap (slice_get rack.slots) there ∙ at in cc) in
+        let x = unit_short m rack variables deck files left last before now u k.0 k.1 k.2 given in
+        subst (StopsShort variables deck files left last slot l.done) (sym named) (x.0.0, x.1 ∙ there, x.2 (ap (λ (y : Ledger E J A). is_some y.halt) same ∙ halted) ∙ ap (λ (y : Ledger E J A). y.done) same)
+
+    by : (a b : Bool) → (u.slot == slot) ≡ a → bytes_eq name u.name ≡ b → (has_file us slot name ≡ true → StopsShort variables deck files left last slot l.done name) → ((a && b) || has_file us slot name) ≡ true
+        → StopsShort variables deck files left last slot l.done name
+    by true true there named later h =
+        here (elim (eqb_tells u.slot slot) [ inl a ↦ a.1 | inr a ↦ absurd (let z : true ≡ false = sym there ∙ a.0 in cc) ]) ((bytes_eq-Decides name u.name).0 named)
+    by true false there named later h = later h
+    by false b there named later h = later h
 
 -- ---- what the statement is about
 

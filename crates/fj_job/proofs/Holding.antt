@@ -1,5 +1,5 @@
 -- What closing all units would leave, where a stop was told and where a call on the outside failed.
-use Rattle.std.proofs.Common.{◌≡◌, ◌≢◌, inl, inr, ℕ, ◌≤◌, true, false, List, length, drop, Option, Some, None, IfSome, is_some, slice_get, sym, ap, ◌∙◌, subst}
+use Rattle.std.proofs.Common.{◌≡◌, ◌≢◌, inl, inr, ℕ, ◌+◌, ◌≤◌, true, false, List, length, drop, Option, Some, None, IfSome, is_some, slice_get, sym, ap, ◌∙◌, subst}
 use Rattle.fj_outside.specs.Holdings.{Holdings}
 use Rattle.fj_outside.specs.declared.outside.FileStore.{Ghosts}
 use Rattle.fj_statement.specs.declared.deck.Deck.{Deck}
@@ -19,8 +19,8 @@ use Rattle.fj_meaning_turns.specs.Cutting.{IsCutRun}
 use Rattle.fj_meaning_turns.specs.Executing.{HoldsDesks}
 use Rattle.fj_meaning_turns.specs.Serving.{Shows}
 use Rattle.fj_meaning_cut.specs.Others.{names_in, file_about, file_opened, has_file, core_now, AreHoused, LeavesOthers, file_renewed}
-use Rattle.fj_meaning_cut.specs.Awaiting.{IsFree, StopsAt}
-use Rattle.fj_meaning_cut.specs.Stopping.{HoldsGiven}
+use Rattle.fj_meaning_cut.specs.Awaiting.{StopsAt}
+use Rattle.fj_meaning_cut.specs.Stopping.{HoldsGiven, WasAwaited}
 use Rattle.fj_meaning_cut.specs.Turning.{IsUnbegun, SubmitLeavesOthers, TurnLeavesOthers}
 use Rattle.fj_meaning_cut.proofs.Connecting.{opened_about}
 use Rattle.fj_run_statements.specs.State.{core_of, core_at}
@@ -67,8 +67,8 @@ module _ {E J A F : Type 0} {ghosts : Ghosts F} (meaning : Meaning E J A Bay Job
     pub kept : KeepsSo (statement, state)
     pub holding : HoldUnits meaning rack m.state.core.units
 
-  abbrev CausesSo : Stated × State → Type 0
-  CausesSo at = IsCause rack m.state.core.units at.0 at.1 before now
+  abbrev CausesSo : ℕ → Stated × State → Type 0
+  CausesSo index at = IsCause rack m.state.core.units deck files index at.0 at.1 before now
 
   -- the same place, and why no more was done
   pub record CauseAt (rest : List Stated) : Type 0 where
@@ -77,25 +77,38 @@ module _ {E J A F : Type 0} {ghosts : Ghosts F} (meaning : Meaning E J A Bay Job
     pub state : State
     pub cut_is : cut deck.variables index (stated deck.statements) (start deck.variables files) ≡ Some (statement, state)
     pub place : length rest ≡ length (drop index (stated deck.statements))
-    pub cause : CausesSo (statement, state)
+    pub cause : CausesSo index (statement, state)
 
-  pub cause_there : (rest : List Stated) (h : CauseAt rest) (comes : ComesTo deck files) → length rest ≡ length (drop comes.index (stated deck.statements)) → CausesSo (comes.statement, comes.before)
+  pub cause_there : (rest : List Stated) (h : CauseAt rest) (comes : ComesTo deck files) → length rest ≡ length (drop comes.index (stated deck.statements)) → CausesSo comes.index (comes.statement, comes.before)
   cause_there rest h comes e =
-      subst CausesSo (one_place deck.variables (stated deck.statements) (start deck.variables files) h.index comes.index (h.statement, h.state) (comes.statement, comes.before) h.cut_is comes.there (sym h.place ∙ e)) h.cause
+      subst (λ n. CausesSo n (comes.statement, comes.before))
+      (one_index (stated deck.statements) h.index comes.index (within deck.variables h.index (stated deck.statements) (start deck.variables files) (h.statement, h.state) h.cut_is)
+      (within deck.variables comes.index (stated deck.statements) (start deck.variables files) (comes.statement, comes.before) comes.there) (sym h.place ∙ e))
+      (subst (CausesSo h.index) (one_place deck.variables (stated deck.statements) (start deck.variables files) h.index comes.index (h.statement, h.state) (comes.statement, comes.before) h.cut_is comes.there (sym h.place ∙ e)) h.cause)
 
-  -- where a stop of that slot was told
-  pub stop_cause : (run : Run) (index : ℕ) (statement : Stated) (slot : ℕ) → run.core ≡ core_of (files_of held) m.state.core → length run.rest ≡ length (drop index (stated deck.statements))
-      → StopsAt deck.variables (stated deck.statements) files index statement slot run → ((l : Ledger E J A) → slice_get rack.slots slot ≡ Some l → is_some l.halt ≡ true)
-      → (IsFree run.core.units slot → StopsAside rack run.core.units) → CauseAt run.rest
-  stop_cause run index statement slot core place at halted aside = record {
+  -- where a stop of that slot was told, and the statement waits for such a job
+  pub stop_cause : (run : Run) (index : ℕ) (statement : Stated) (slot : ℕ) (l : Ledger E J A) → slice_get rack.slots slot ≡ Some l → is_some l.halt ≡ true → run.core ≡ core_of (files_of held) m.state.core
+      → length run.rest ≡ length (drop index (stated deck.statements)) → StopsAt deck.variables (stated deck.statements) files index statement slot run
+      → (job : ℕ) × (l.done ≤ job) × WasAwaited deck.variables (stated deck.statements) files (index + 1) slot job → CauseAt run.rest
+  stop_cause run index statement slot l here halted core place at waits = record {
     index = index;
     statement = statement;
     state = at.state;
     cut_is = at.cut_is;
     place = place;
     cause = elim at.place [
-      | inl (u, has) ↦ inl (u, λ served. let it = served slot (ap (λ us. has_file us slot u.name) (sym units) ∙ has) in absurd (let z : false ≡ true = sym (ap is_some it.2) ∙ halted it.0 it.1 in cc))
-      | inr free ↦ inr (inl (subst (λ us. StopsAside rack us) units (aside free)))
+      | inl (u, has) ↦ inl (record {
+        unit = u;
+        slot = slot;
+        filed = ap (λ us. has_file us slot u.name) (sym units) ∙ has;
+        ledger = l;
+        here = here;
+        halted = halted;
+        job = waits.0;
+        behind = waits.1;
+        awaited = waits.2;
+      })
+      | inr free ↦ inr (inl (subst (λ us. StopsAside rack us) units (record { slot = slot; ledger = l; here = here; free = free; halted = halted })))
     ];
   }
     where

@@ -30,3 +30,4 @@ pub mod RunsSend
 pub mod Sends
 pub mod SomeReplies
 pub mod Giving
+pub mod Awaiting

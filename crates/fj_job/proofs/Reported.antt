@@ -1,5 +1,5 @@
 -- What was told and written where a run met a fault, and what is reported then.
-use Rattle.std.proofs.Common.{◌≡◌, ◌⊎◌, inl, inr, ℕ, ◌≤◌, Bool, true, false, List, [], ◌++◌, Option, Some, None, IsSome, IfSome, Result, Ok, slice_get, refl, ap, sym, ◌∙◌, subst, append_assoc, is_some, ◌≢◌, arith}
+use Rattle.std.proofs.Common.{◌≡◌, ◌⊎◌, inl, inr, ℕ, ◌+◌, ◌≤◌, Bool, true, false, List, [], ◌++◌, Option, Some, None, IsSome, IfSome, Result, Ok, slice_get, refl, ap, sym, ◌∙◌, subst, append_assoc, is_some, ◌≢◌, arith}
 use Rattle.std.specs.FinMap as map
 use Rattle.std.specs.FinSet as set
 use Rattle.std.specs.Option.{option_map}
@@ -10,6 +10,7 @@ use Rattle.fj_statement.specs.declared.deck.Deck.{Deck}
 use Rattle.fj_statement.specs.declared.statement.Statement.{Statement}
 use Rattle.fj_statement.specs.declared.statement.Statement.TheVariants as statement
 use Rattle.fj_connect.specs.Linked.{Linked}
+use Rattle.fj_slot.specs.Ledger.{Ledger}
 use Rattle.fj_slot.specs.Serving.{Meaning}
 use Rattle.fj_bay.specs.Bay.{Bay}
 use Rattle.fj_bay.specs.Jobs.{Job, Answer}
@@ -18,6 +19,7 @@ use Rattle.fj_meaning.specs.State.{State, Files, Output, Tell, all_closed, start
 use Rattle.fj_meaning.specs.Statement.{Stated, plain_execution, step, stated}
 use Rattle.fj_meaning_jobs.specs.Core.{has_name}
 use Rattle.fj_meaning_cut.specs.Others.{Names, names_in, file_opened, file_about, file_renewed, AreHoused}
+use Rattle.fj_meaning_cut.specs.Stopping.{HoldsGiven, WasAwaited}
 use Rattle.fj_meaning_cut.proofs.Connecting.{opened_about}
 use Rattle.fj_run_pending.specs.Plain.{tells_of}
 use Rattle.fj_run_items.specs.Handing.{TakesFront, TakesPart, whole_records, open_record}
@@ -53,7 +55,7 @@ use Rattle.fj_job.proofs.Leading.{rose_later}
 use Rattle.fj_job.proofs.Leaving.{seated_of, named_of, housed_of, served_of, due_wider, within}
 use Rattle.fj_job.proofs.Executed.{desks, ending_is, output_is, tells_are, files_are, holds, are_seated, are_named, replies, makes, none_there, taken_both, given_until}
 use Rattle.fj_job.proofs.Fronts.{front_behind, part_behind, front_more, deck_ends, some_by, not_lost}
-use Rattle.fj_job.proofs.Giving.{LeavesShort, not_left, left_short}
+use Rattle.fj_job.proofs.Giving.{LeavesShort, not_left, left_short, stopped_short}
 
 -- ---- where a run ended or was cut, at the statement at hand
 
@@ -156,14 +158,31 @@ module _ {E J A F : Type 0} {ghosts : Ghosts F} (meaning : Meaning E J A Bay Job
   }
 
   -- a unit whose slot has stopped has a file that is hurt, and no other slot has stopped
-  pub learnt_by : wants settled ≡ false → (comes : ComesTo deck files) → IsCause rack m.state.core.units comes.statement comes.before before now → IsLearnt comes.statement comes.before last before end
-  learnt_by told comes (inl (u, stopped)) = inl (u, by (set.contains last.hurt u.name) refl)
+  pub learnt_by : wants settled ≡ false → (comes : ComesTo deck files) → HoldsGiven deck.variables (stated deck.statements) files meaning rack comes.index
+      → IsCause rack m.state.core.units deck files comes.index comes.statement comes.before before now → IsLearnt comes last before end
+  learnt_by told comes given (inl it) =
+      let short =
+      stopped_short meaning rack deck.variables (stated deck.statements) files (files_of last) comes.index now end it.unit.name it.slot it.ledger m.state.core.units it.here it.halted closed.found given it.filed in
+      inl (record {
+        unit = it.unit;
+        hurt = by (set.contains last.hurt it.unit.name) refl;
+        stop = short.0;
+        job = it.job;
+        behind = (let at = short.2 in let behind = it.behind in omega (arith, at, behind));
+        awaited = subst (λ k. WasAwaited deck.variables (stated deck.statements) files (comes.index + 1) k it.job) (sym short.1) it.awaited;
+      })
     where
-      by : (b : Bool) → set.contains last.hurt u.name ≡ b → b ≡ true
+      halted : (l : Ledger E J A) → slice_get rack.slots it.slot ≡ Some l → l.halt ≡ None → ⊥
+      halted l e none =
+          let same : l ≡ it.ledger = (let z : Some l ≡ Some it.ledger = sym e ∙ it.here in cc) in
+          let z : false ≡ true = sym (ap is_some none) ∙ ap (λ (k : Ledger E J A). is_some k.halt) same ∙ it.halted in
+          cc
+
+      by : (b : Bool) → set.contains last.hurt it.unit.name ≡ b → b ≡ true
       by true e = refl
-      by false e = absurd (stopped (served_of rack last u.name m.state.core.units (closed.running told) e))
-  learnt_by told comes (inr (inl aside)) = absurd (let z : false ≡ true = sym (ap is_some (closed.others aside.slot aside.ledger aside.here aside.free)) ∙ aside.halted in cc)
-  learnt_by told comes (inr (inr (called, rose))) = inr (called, rose_later before now end rose late)
+      by false e = absurd (let served = served_of rack last it.unit.name m.state.core.units (closed.running told) e it.slot it.filed in halted served.0 served.1 served.2)
+  learnt_by told comes given (inr (inl aside)) = absurd (let z : false ≡ true = sym (ap is_some (closed.others aside.slot aside.ledger aside.here aside.free)) ∙ aside.halted in cc)
+  learnt_by told comes given (inr (inr (called, rose))) = inr (called, rose_later before now end rose late)
 
 module _ {E J A F : Type 0} {ghosts : Ghosts F} (meaning : Meaning E J A Bay Job Answer) (rack : Rack E J A) (held last : Holdings) (before now end : ℕ) (Tells : Type 0) (old new : List ℕ)
     (deck : Deck) (files : Files) (m : Machine F ghosts) (l : Left F) (cut : IsCut meaning rack held before now Tells old new deck files m) (at : l.at ≡ m.at.place) (settled : Result (Unit {0}) Lost)
@@ -183,7 +202,7 @@ module _ {E J A F : Type 0} {ghosts : Ghosts F} (meaning : Meaning E J A Bay Job
         output = ap (λ (k : Kept). k.output) core ∙ x.output;
         tells = ap (λ (k : Kept). tells_of k.tells) core ∙ x.tells;
         files_are = files_left meaning rack held last before now end deck files m settled closed early late told cut.comes x.reach x.files_are;
-        learnt = elim x.cause [ inl e ↦ inl e | inr why ↦ inr (learnt_by meaning rack held last before now end deck files m settled closed early late told cut.comes why) ];
+        learnt = elim x.cause [ inl e ↦ inl e | inr why ↦ inr (learnt_by meaning rack held last before now end deck files m settled closed early late told cut.comes x.files_are.given why) ];
       }
 
   -- where the sink failed

@@ -1,5 +1,5 @@
 -- What a run that met a fault has told: what executing the deck tells, up to one of its statements.
-use Rattle.std.specs.Prelude.{◌≡◌, ◌≢◌, ◌⊎◌, ℕ, true, false, List, [], ◌++◌, Some, None, IsSome, slice_get}
+use Rattle.std.specs.Prelude.{◌≡◌, ◌≢◌, ◌⊎◌, ℕ, ◌+◌, ◌≤◌, true, false, List, [], ◌++◌, Some, None, IsSome, slice_get}
 use Rattle.std.specs.FinSet as set
 use Rattle.fj_outside.specs.Faults.{Rose}
 use Rattle.fj_outside.specs.Holdings.{Holdings}
@@ -11,7 +11,7 @@ use Rattle.fj_meaning.specs.Telling.{waited, after_tells}
 use Rattle.fj_meaning.specs.Statement.{Stated, begun_in, control_by, step, stated, cut}
 use Rattle.fj_meaning_cut.specs.Others.{names_in, file_about, file_renewed}
 use Rattle.fj_meaning_cut.specs.Awaiting.{AwaitedUnit}
-use Rattle.fj_meaning_cut.specs.Stopping.{IsLeftShort}
+use Rattle.fj_meaning_cut.specs.Stopping.{IsLeftShort, WasAwaited}
 use Rattle.fj_run_statements.specs.Calling.{calls_disk}
 use Rattle.fj_run_units.specs.Files.{files_of}
 use Rattle.fj_run_units.specs.Returning.{IsAsDue}
@@ -89,10 +89,20 @@ pub record AreLeft (deck : Deck) (files : Files) (comes : ComesTo deck files) (r
       → IsAsDue before now (files_of left name) ((all_closed (reached reach deck.variables comes.statement comes.before)).files name)
   pub others : AreCutShort deck files comes reach left before now
 
--- Why a fault of the disk is learnt at a statement, in that state: it waits at a unit whose file is told as hurt; or it is one that calls
--- the disk itself, to open or to close a file or to ask whether there is one, and the disk's own number rose.
-abbrev pub IsLearnt : Stated → State → Holdings → ℕ → ℕ → Type 0
-IsLearnt statement s left before now = ((u : AwaitedUnit s statement.0.what) × (set.contains left.hurt u.name ≡ true)) ⊎ ((calls_disk statement.0.what ≡ true) × Rose before now)
+-- The statement waits at a unit whose file is told as hurt, for a job at or behind the one that was stopped in it: no statement up to
+-- this one waits for such a job but this, since the stop is behind each one that an earlier statement waits for.
+pub record WaitsForStop {deck : Deck} {files : Files} (comes : ComesTo deck files) (left : Holdings) : Type 0 where
+  pub unit : AwaitedUnit comes.before comes.statement.0.what
+  pub hurt : set.contains left.hurt unit.name ≡ true
+  pub stop : IsLeftShort deck.variables (stated deck.statements) files comes.index unit.name (files_of left unit.name)
+  pub job : ℕ
+  pub behind : stop.number ≤ job
+  pub awaited : WasAwaited deck.variables (stated deck.statements) files (comes.index + 1) stop.slot job
+
+-- Why a fault of the disk is learnt at a statement: it waits for what was stopped; or it is one that calls the disk itself, to open or to
+-- close a file or to ask whether there is one, and the disk's own number rose.
+abbrev pub IsLearnt : {deck : Deck} {files : Files} → ComesTo deck files → Holdings → ℕ → ℕ → Type 0
+IsLearnt comes left before now = WaitsForStop comes left ⊎ ((calls_disk comes.statement.0.what ≡ true) × Rose before now)
 
 -- a sink took a front of the reply to a deck that is carried out
 abbrev pub TookRun : Deck → Lines → Files → List ℕ → List ℕ → Type 0
@@ -112,7 +122,7 @@ TookReport deck lines files status old new = (line : ℕ) × IsOfReport status l
 -- A sink took the report; or it failed, and took a front of it and not all.
 abbrev pub CutByDisk : Deck → Lines → Files → ℕ → Type 0 → List ℕ → List ℕ → Type 0 → Holdings → ℕ → ℕ → Type 0
 CutByDisk deck lines files line Tells old new Failed left before now = (output : List ℕ) × (report : IsFaultReport deck lines files line output)
-    × AreLeft deck files report.comes report.reach left before now × ((report.reach ≡ Carried) ⊎ IsLearnt report.comes.statement report.comes.before left before now)
+    × AreLeft deck files report.comes report.reach left before now × ((report.reach ≡ Carried) ⊎ IsLearnt report.comes left before now)
     × (Tells → (new ≡ old ++ output) ⊎ (Failed × TakesPart old new output))
 
 -- what is to be written next there: the records that the output has behind the statement; or, where the deck ended at it, the reply

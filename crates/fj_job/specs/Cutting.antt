@@ -1,5 +1,5 @@
 -- What the machine and its sink are where a run was cut, and where a deck ended.
-use Rattle.std.specs.Prelude.{◌≡◌, ◌≢◌, ◌⊎◌, ℕ, true, false, List, ◌++◌, Some, None, IfSome, is_some, slice_get, length, drop}
+use Rattle.std.specs.Prelude.{◌≡◌, ◌≢◌, ◌⊎◌, ℕ, ◌+◌, ◌≤◌, true, false, List, ◌++◌, Some, None, IfSome, is_some, slice_get, length, drop}
 use Rattle.fj_outside.specs.Faults.{Rose}
 use Rattle.fj_outside.specs.Holdings.{Holdings}
 use Rattle.fj_outside.specs.declared.outside.FileStore.{Ghosts}
@@ -17,7 +17,7 @@ use Rattle.fj_meaning_jobs.specs.Desking.{all_left}
 use Rattle.fj_meaning_turns.specs.Executing.{HoldsDesks}
 use Rattle.fj_meaning_cut.specs.Others.{names_in, file_about, file_opened, has_file, AreHoused, file_renewed}
 use Rattle.fj_meaning_cut.specs.Awaiting.{AwaitedUnit}
-use Rattle.fj_meaning_cut.specs.Stopping.{HoldsGiven}
+use Rattle.fj_meaning_cut.specs.Stopping.{HoldsGiven, WasAwaited}
 use Rattle.fj_run_pending.specs.Plain.{tells_of}
 use Rattle.fj_run_statements.specs.Calling.{calls_disk}
 use Rattle.fj_run_units.specs.Files.{files_of}
@@ -60,11 +60,23 @@ pub record StopsAside {E J A : Type 0} (rack : Rack E J A) (units : List Connect
   pub free : has_slot units slot ≡ false
   pub halted : is_some ledger.halt ≡ true
 
+-- The slot of a unit has stopped at which the statement waits, for a job at or behind the one that stopped.
+pub record StopsAwaited {E J A : Type 0} (rack : Rack E J A) (units : List Connected) (deck : Deck) (files : Files) (index : ℕ) (statement : Stated) (s : State) : Type 0 where
+  pub unit : AwaitedUnit s statement.0.what
+  pub slot : ℕ
+  pub filed : has_file units slot unit.name ≡ true
+  pub ledger : Ledger E J A
+  pub here : slice_get rack.slots slot ≡ Some ledger
+  pub halted : is_some ledger.halt ≡ true
+  pub job : ℕ
+  pub behind : ledger.done ≤ job
+  pub awaited : WasAwaited deck.variables (stated deck.statements) files (index + 1) slot job
+
 -- why no more was done: the statement waits at a unit whose slot has stopped, or for one that no unit has; or it calls the disk itself, and
 -- the disk's own number rose
-abbrev pub IsCause : {E J A : Type 0} → Rack E J A → List Connected → Stated → State → ℕ → ℕ → Type 0
-IsCause rack units statement s before now =
-    ((u : AwaitedUnit s statement.0.what) × (IsServed rack units u.name → ⊥)) ⊎ StopsAside rack units ⊎ ((calls_disk statement.0.what ≡ true) × Rose before now)
+abbrev pub IsCause : {E J A : Type 0} → Rack E J A → List Connected → Deck → Files → ℕ → Stated → State → ℕ → ℕ → Type 0
+IsCause rack units deck files index statement s before now =
+    StopsAwaited rack units deck files index statement s ⊎ StopsAside rack units ⊎ ((calls_disk statement.0.what ≡ true) × Rose before now)
 
 -- Output and tells are what the execution tells up to that statement, the sink took the records that ended, and so it is of the files.
 pub record IsExact {E J A F : Type 0} {ghosts : Ghosts F} (meaning : Meaning E J A Bay Job Answer) (rack : Rack E J A) (held : Holdings) (before now : ℕ) (Tells : Type 0) (old new : List ℕ)
@@ -75,7 +87,7 @@ pub record IsExact {E J A F : Type 0} {ghosts : Ghosts F} (meaning : Meaning E J
   pub tells : tells_of m.state.core.tells ≡ (reached reach deck.variables comes.statement comes.before).tells
   pub taken : Tells → new ≡ old ++ whole_records m.state.core.output
   pub files_are : HoldsFiles meaning rack held before now deck files comes reach m
-  pub cause : (reach ≡ Carried) ⊎ IsCause rack m.state.core.units comes.statement comes.before before now
+  pub cause : (reach ≡ Carried) ⊎ IsCause rack m.state.core.units deck files comes.index comes.statement comes.before before now
 
 -- The sink took a front of the records that the output has before or behind that statement.
 pub record TookFront (old new : List ℕ) (deck : Deck) (files : Files) (comes : ComesTo deck files) : Type 0 where
@@ -130,7 +142,7 @@ pub record IsLeftAt {F : Type 0} (deck : Deck) (files : Files) (left : Left F) (
   pub output : left.core.output ≡ (reached reach deck.variables comes.statement comes.before).output
   pub tells : tells_of left.core.tells ≡ (reached reach deck.variables comes.statement comes.before).tells
   pub files_are : AreLeft deck files comes reach held before now
-  pub learnt : (reach ≡ Carried) ⊎ IsLearnt comes.statement comes.before held before now
+  pub learnt : (reach ≡ Carried) ⊎ IsLearnt comes held before now
 
 -- The sink failed at a statement of the deck, the one at hand: the files are left as they are there, and so far the sink came.
 pub record IsLeftBegun {F : Type 0} (deck : Deck) (files : Files) (left : Left F) (Tells : Type 0) (old new : List ℕ) (held : Holdings) (before now : ℕ) : Type 0 where

@@ -51,7 +51,7 @@ does_without_file _ = false
 
 -- they learn of none
 abbrev pub SomeLearnNothing : Type 0
-SomeLearnNothing = (st : Stated) (s : State) (left : Holdings) (before now : ℕ) → does_without_file st.0.what ≡ true → IsLearnt st s left before now → ⊥
+SomeLearnNothing = (deck : Deck) (files : Files) (comes : ComesTo deck files) (left : Holdings) (before now : ℕ) → does_without_file comes.statement.0.what ≡ true → IsLearnt comes left before now → ⊥
 
 -- a statement that does not call the disk itself leaves the files that no unit has
 abbrev pub OthersLeaveFiles : Type 0
