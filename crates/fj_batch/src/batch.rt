@@ -8,10 +8,10 @@ ghost use Rattle.fj_batch.specs.Bytes.{usage_text, batch_text};
 ghost use Rattle.fj_batch.specs.Members.{EachBecomes, IsNew, HasCome, names_of, greatest_exit};
 ghost use Rattle.fj_batch.specs.Answers.{IsServed, IsAnswered, Took, due};
 
-use crate::hearing::Hears;
+use crate::hearer::Hears;
 use crate::member::{Member, MemberList};
 use crate::report::{batch_text, greatest_exit, usage};
-use crate::serving::{Serving, serve_members};
+use crate::runs::{Serving, serve_members};
 use crate::words::workers_for;
 use fj_outside::{Disk, Sink, Source};
 use fj_run_items::{Lost, put_all};

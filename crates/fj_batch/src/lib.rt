@@ -2,15 +2,15 @@
 #![tactic(auto)]
 
 mod batch;
-mod hearing;
+mod hearer;
 mod laws;
 mod member;
 mod report;
-mod serving;
+mod runs;
 mod words;
 
 pub use batch::{BatchStatus, run_batch};
-pub use hearing::{Hears, Unheard};
+pub use hearer::{Hears, Unheard};
 pub use laws::batches_agree;
 pub use member::{Member, MemberList};
 pub use words::member_names;

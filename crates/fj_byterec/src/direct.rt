@@ -9,8 +9,8 @@ use fj_outside::{FileStore, Stop};
 use fj_span::{GATHERED, put, read_span, write_span};
 use fj_value::Text;
 
-/// Reads the record of a number, counted from 1, of `recl` bytes (ISO/IEC 1539-1:2004, 9.2.2.2). False is told where the
-/// file does not reach its end. `into` gets the record, and after a `Stop` is of no account.
+/// Reads the record of a number, counted from 1, of `recl` bytes (ISO/IEC 1539-1:2004, 9.2.2.2). False where the file does not
+/// reach its end. `into` gets the record, and after a `Stop` is of no account.
 pub fn read_direct<F: FileStore>(
     file: &mut F,
     recl: u32,
@@ -46,8 +46,8 @@ pub fn read_direct<F: FileStore>(
     }
 }
 
-/// Writes the record of a number, counted from 1, of `recl` bytes. A shorter piece is filled up, and so is the gap
-/// before the record where the file ends before it. The bytes behind the record stay.
+/// Writes the record of a number, counted from 1, of `recl` bytes (ISO/IEC 1539-1:2004, 9.2.2.2). A shorter piece is filled up, and
+/// so is the gap before the record where the file ends before it. The bytes after the record stay.
 pub fn write_direct<F: FileStore>(
     file: &mut F,
     recl: u32,

@@ -1,4 +1,4 @@
-//! Direct and stream access to files: bytes as equal records, and as they stand.
+//! Direct and stream access to files: bytes as equal records, and as they stand (ISO/IEC 1539-1:2004, 9.2.2.2 and 9.2.2.3).
 #![tactic(auto)]
 
 mod direct;

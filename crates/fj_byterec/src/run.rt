@@ -8,8 +8,8 @@ use crate::fill::write_copies;
 use fj_outside::{FileStore, Stop};
 use fj_span::write_span;
 
-/// Writes the bytes of whole records, one after another, from a place on. The gap before them is filled up where the file
-/// ends before it. The bytes behind them stay.
+/// Writes the bytes of whole records, one after another, from a place on, counted in bytes from 0 (ISO/IEC 1539-1:2004, 9.2.2.2).
+/// The gap before them is filled up where the file ends before it. The bytes after them stay.
 pub fn write_run<F: FileStore>(file: &mut F, start: u64, run: &[u8], fill: u8) -> Result<(), Stop>
     requires { start + length run.now ≤ 268435456 }
     ensures telling { F.tells file.old ↔ F.tells file.new }

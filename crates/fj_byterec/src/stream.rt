@@ -9,7 +9,7 @@ use fj_outside::{FileStore, Stop};
 use fj_span::{read_span, write_span};
 use fj_value::Text;
 
-/// Reads so many bytes from a place on, which is at most the length (ISO/IEC 1539-1:2004, 9.2.2.3). False is told where
+/// Reads so many bytes from a place on, counted from 0, which is at most the length (ISO/IEC 1539-1:2004, 9.2.2.3). False where
 /// fewer are left. `into` gets the bytes, and after a `Stop` is of no account.
 pub fn read_stream<F: FileStore>(
     file: &mut F,
@@ -39,7 +39,8 @@ pub fn read_stream<F: FileStore>(
     Ok(true)
 }
 
-/// Puts bytes at a place, which is at most the length, over what stands there, and answers the place behind them.
+/// Puts bytes at a place, counted from 0, which is at most the length, over what stands there (ISO/IEC 1539-1:2004, 9.2.2.3), and
+/// answers the place after them.
 pub fn write_stream<F: FileStore>(file: &mut F, at: u64, piece: &[u8]) -> Result<u64, Stop>
     requires place { at ≤ F.size file.old }
     requires limit { at + length piece.now ≤ 268435456 }

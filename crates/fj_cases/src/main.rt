@@ -11,11 +11,11 @@ mod case;
 mod difference;
 mod escapes;
 mod listed_disk;
-mod running;
+mod run;
 mod texts;
 
 use case::read_case;
-use running::verdict;
+use run::verdict;
 use std::{fs, io};
 use texts::check_texts;
 

@@ -1,4 +1,4 @@
-//! Connections of a unit to a file: opening, the position, the record at hand, closing.
+//! Connections of a unit to a file: opening, the position, the record at hand, closing (ISO/IEC 1539-1:2004, 9.4 and 9.7).
 #![tactic(auto)]
 
 mod connection;

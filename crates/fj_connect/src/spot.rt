@@ -20,7 +20,7 @@ pub enum Positioning {
     Endfile,
 }
 
-/// Where a connection stands.
+/// Where a connection stands (ISO/IEC 1539-1:2004, 9.2.3). Places are counted in bytes from 0.
 #[derive(Clone, Copy, PartialEq, Eq)]
 pub struct Spot {
     /// The position: how many bytes stand before it.

@@ -1,4 +1,4 @@
-// The part of a format that is used again at its end.
+// The part of a format that is used again at its end (ISO/IEC 1539-1:2004, 10.3).
 ghost use Rattle.std.specs.Prelude.{◌≡◌, ◌≤◌};
 ghost use Rattle.std.specs.List.{list_any};
 ghost use Rattle.fj_format.specs.Unfolding.{again_items, is_group, is_unlimited, height, has_unlimited};

@@ -47,7 +47,7 @@ impl<'a> Model for Cursor<'a> {
 }
 
 impl<'a> Cursor<'a> {
-    /// A walk of a format from its start. Without groups it takes no memory.
+    /// A walk of a format from its start (ISO/IEC 1539-1:2004, 10.3). Without groups it takes no memory.
     pub fn new(alloc: Global, format: &'a Format) -> Result<Cursor<'a>, AllocError>
         ensures flat { list_any is_group format.entry.now ≡ false → IsOk result }
         ensures begun { IfOk result (λ cursor. cursor ≡ begun format.entry.now) }
@@ -64,7 +64,9 @@ impl<'a> Cursor<'a> {
         })
     }
 
-    /// The next step, where an item is left or not. After `Done` or `NoData` it is the same again.
+    /// The next step, where an item is left or not (ISO/IEC 1539-1:2004, 10.3). It is `NoData`, for which a transfer has
+    /// `NO_DESCRIPTOR` (11), where an item is left and the part that is used again has no data edit descriptor. After `Done` or
+    /// `NoData` it is the same again.
     pub fn next(&mut self, left: bool) -> Step<'a>
         ensures given { given result ≡ (next_of self.old left).0 }
         ensures walk { self.new ≡ (next_of self.old left).1 }
@@ -73,8 +75,8 @@ impl<'a> Cursor<'a> {
         self.advance(left)
     }
 
-    /// Where a data descriptor is next, up to so many times: the descriptor, and how often it comes. These steps are then
-    /// behind the cursor. It may be more often still.
+    /// Where a data edit descriptor is next, up to so many times: the descriptor, and how often it comes. These steps are then
+    /// before the cursor. It may be more often still. `None` changes nothing.
     pub fn run(&mut self, most: usize) -> Option<(Edit, usize)>
         ensures due { IfSome result (λ (run : Edit × ℕ). (n : ℕ) → run.1 ≤ n
             → due self.old n ≡ replicate run.1 (gives (edit run.0)) ++ due self.new (n - run.1)) }
@@ -148,8 +150,8 @@ pub fn gives_the_steps()
     ensures enough { RoundsAreEnough }
 {}
 
-/// Control reverts to the item that the last right parenthesis before that of the format ends, or to the start of the
-/// format where there is none.
+/// Control reverts to the item that the last right parenthesis before that of the format ends, or to the start of the format where
+/// there is none (ISO/IEC 1539-1:2004, 10.3).
 pub fn reverts_to_the_last_group()
     ensures group { RevertsToTheLastGroup }
     ensures start { RevertsToTheStart }

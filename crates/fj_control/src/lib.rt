@@ -1,4 +1,4 @@
-//! Format control, and the lines that it writes.
+//! Format control, and the lines that it writes (ISO/IEC 1539-1:2004, 10.3).
 #![tactic(auto)]
 
 mod again;

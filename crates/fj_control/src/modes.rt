@@ -5,7 +5,7 @@ ghost use Rattle.fj_control.specs.Paired.{modes_behind};
 use fj_format::ModeStep;
 use fj_value::EditModes;
 
-/// The modes behind a control edit descriptor (ISO/IEC 1539-1:2004, 10.7.4, 10.7.6 and 10.7.8).
+/// The modes after a control edit descriptor (ISO/IEC 1539-1:2004, 10.7.4, 10.7.6 and 10.7.8).
 pub fn modes_behind(mode: ModeStep, modes: EditModes) -> EditModes
     ensures { result ≡ modes_behind mode modes }
 {

@@ -1,4 +1,4 @@
-// A walk of a list of items with its repeats written out.
+// A walk of a list of items with its repeats written out (ISO/IEC 1539-1:2004, 10.3).
 ghost use Rattle.std.specs.Prelude.{◌≡◌, ◌≤◌, ◌<◌, ◌+◌, ◌*◌, ◌++◌, ℕ, [], ◌∷◌, false, length, vec_capacity, IsTrue, IfSome, IfNone, IfOk, IsOk};
 ghost use Rattle.fj_value.specs.declared.edit.Edit.{Edit};
 ghost use Rattle.std.specs.List.{list_any};

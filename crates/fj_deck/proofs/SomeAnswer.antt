@@ -9,8 +9,8 @@ use Rattle.fj_format.specs.Parsing.{IsNoFormat}
 use Rattle.fj_format.specs.Reading.{Answers}
 use Rattle.fj_format.specs.Scanning.{first, scan}
 use Rattle.fj_format.specs.declared.item.FormatItem.{FormatItem}
-use Rattle.fj_format.specs.declared.place.Place.{Place}
-use Rattle.fj_format.specs.declared.place.Place.TheVariants.{Done}
+use Rattle.fj_format.specs.declared.place.FormatPlace.{FormatPlace}
+use Rattle.fj_format.specs.declared.place.FormatPlace.TheVariants.{Done}
 use Rattle.fj_format.specs.declared.scanner.Scanner.{Scanner}
 use Rattle.fj_format.proofs.Parsed.{done_items, refused, short, taken}
 use Rattle.fj_format.proofs.Scanned.{Stands, stands_first}
@@ -46,7 +46,7 @@ none_or (Some x) = inr (x, refl)
 abbrev FormatAnswer : List ℕ → Type 0
 FormatAnswer text = ((items : List FormatItem) × IsFormat text items) ⊎ ((at : ℕ) × IsNoFormat text at)
 
-is_done : (p : Place) → (p ≡ Done) ⊎ (p ≢ Done)
+is_done : (p : FormatPlace) → (p ≡ Done) ⊎ (p ≢ Done)
 is_done Done = inl refl
 is_done p = inr (λ e. cc)
 

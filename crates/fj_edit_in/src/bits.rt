@@ -46,7 +46,9 @@ fn integer_of(bits: u32, base: u8, blank_zero: bool, field: &[u8]) -> Result<i64
     signed_of(bits, amount).ok_or(Condition::OUT_OF_RANGE)
 }
 
-/// Reads an integer under B, O or Z. It takes no memory.
+/// Reads an integer under B, O or Z (ISO/IEC 1539-1:2004, 10.6.1.1), of which INTEGER(4) has 32 bits and INTEGER(8) 64. Blanks
+/// alone are 0. `WRONG_DESCRIPTOR` (12) comes for another descriptor or kind, `NO_VALUE` (13) for other characters, `OUT_OF_RANGE`
+/// (14) for more bits; each leaves the variable. It takes no memory.
 pub fn read_bits(
     _alloc: Global,
     edit: Edit,

@@ -7,7 +7,9 @@ use crate::{read_bits, read_int, read_logical, read_text};
 use fj_value::{Condition, Edit, EditModes, Kind, Value};
 use std::alloc::{AllocError, Global};
 
-/// Reads a field by its descriptor, and under G by the variable's kind (ISO/IEC 1539-1:2004, 10.6.4).
+/// Reads a field by its descriptor (ISO/IEC 1539-1:2004, 10.6), and under G by the variable's kind (10.6.4). `WRONG_DESCRIPTOR`
+/// (12) comes where the descriptor is not for the kind, `NO_VALUE` (13) for characters that are no value, `OUT_OF_RANGE` (14) for
+/// an integer that the kind does not have. Each leaves the variable, and so does want of memory.
 pub fn read_field(
     alloc: Global,
     edit: Edit,

@@ -38,7 +38,9 @@ fn integer_of(bits: u32, blank_zero: bool, field: &[u8]) -> Result<i64, Conditio
     }
 }
 
-/// Reads an integer under I or G. It takes no memory.
+/// Reads an integer under I or G (ISO/IEC 1539-1:2004, 10.6.1.1 and 10.6.4). Blanks alone are 0. `WRONG_DESCRIPTOR` (12) comes for
+/// another descriptor or kind, `NO_VALUE` (13) for other characters, `OUT_OF_RANGE` (14) past the kind's range; each leaves the
+/// variable. It takes no memory.
 pub fn read_int(
     _alloc: Global,
     edit: Edit,

@@ -7,7 +7,8 @@ use crate::trim::skip_blanks;
 use fj_value::{Condition, Edit, EditModes, Kind, Value, truth_of};
 use std::alloc::{AllocError, Global};
 
-/// Reads a logical under L or G. It takes no memory.
+/// Reads a logical under L or G (ISO/IEC 1539-1:2004, 10.6.2 and 10.6.4). `WRONG_DESCRIPTOR` (12) comes for another descriptor or
+/// kind, `NO_VALUE` (13) for other characters; each leaves the variable. It takes no memory.
 pub fn read_logical(
     _alloc: Global,
     edit: Edit,

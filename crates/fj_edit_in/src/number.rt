@@ -1,4 +1,4 @@
-// The number that digits stand for.
+// The number that digits stand for (ISO/IEC 1539-1:2004, 10.6.1.1).
 ghost use Rattle.std.specs.Prelude.{◌≡◌, ◌==◌, ◌≤◌, if◌then◌else◌, Bool, IfSome, Ok};
 ghost use Rattle.std.specs.Char.{digit_value};
 ghost use Rattle.fj_value.specs.Digits.{number_in};

@@ -14,7 +14,9 @@ fn characters_of(alloc: Global, length: u32, chars: &[u8]) -> Result<Text, Alloc
     Text::assigned(alloc, length, &chars[skipped..])
 }
 
-/// Reads characters under A or G. Want of memory leaves the variable as it was.
+/// Reads characters under A or G (ISO/IEC 1539-1:2004, 10.6.3 and 10.6.4): the last ones where they are more than the variable has,
+/// else all of them and blanks. `WRONG_DESCRIPTOR` (12) comes for another descriptor or kind. It leaves the variable, and so does
+/// want of memory.
 pub fn read_text(
     alloc: Global,
     edit: Edit,

@@ -1,4 +1,4 @@
-// The blanks in front of a field.
+// The blanks in front of a field (ISO/IEC 1539-1:2004, 10.6.1).
 ghost use Rattle.std.specs.Prelude.{◌≡◌};
 ghost use Rattle.fj_edit_in.specs.InputField.{trimmed};
 

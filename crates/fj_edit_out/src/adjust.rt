@@ -1,4 +1,4 @@
-// Numbers and blanks in the width of a field.
+// Numbers and blanks in the width of a field (ISO/IEC 1539-1:2004, 10.6.1).
 ghost use Rattle.std.specs.Prelude.{◌≡◌, ◌-◌, ◌≤◌, ◌++◌, length, take, replicate, OnOk, OnErr};
 ghost use Rattle.fj_edit_out.specs.OutputField.{least_digits, adjusted};
 

@@ -93,8 +93,9 @@ fn push_bits(out: &mut Text, base: u8, w: u32, m: Option<u32>, bits: u64) -> Res
     push_adjusted(out, w, b"", zeros_before(m, digits.len()), digits)
 }
 
-/// Appends the field of an integer under B, O or Z, of which INTEGER(4) shows 32 bits and INTEGER(8) 64. A base that is
-/// not 2, 8 or 16 is for no kind.
+/// Appends the field of an integer under B, O or Z (ISO/IEC 1539-1:2004, 10.6.1.1), of which INTEGER(4) shows 32 bits and
+/// INTEGER(8) 64. `WRONG_DESCRIPTOR` (12) appends nothing: it comes for another descriptor, kind or value, and for a base that is
+/// not 2, 8 or 16.
 pub fn bits_field(
     edit: Edit,
     value: &Value,

@@ -6,7 +6,8 @@ use crate::{bits_field, int_field, logical_field, text_field};
 use fj_value::{Condition, Edit, EditModes, Kind, Text, Value};
 use std::alloc::AllocError;
 
-/// Appends the field of an item by its descriptor, and under G by its kind (ISO/IEC 1539-1:2004, 10.6.4).
+/// Appends the field of an item by its descriptor (ISO/IEC 1539-1:2004, 10.6), and under G by its kind (10.6.4). `WRONG_DESCRIPTOR`
+/// (12) appends nothing: it comes where the descriptor is not for the item.
 pub fn field(
     edit: Edit,
     value: &Value,

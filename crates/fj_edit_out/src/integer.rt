@@ -50,7 +50,8 @@ fn push_integer(
     }
 }
 
-/// Appends the field of an integer under I or G. One that is not of the kind shows its own digits.
+/// Appends the field of an integer under I or G (ISO/IEC 1539-1:2004, 10.6.1.1 and 10.6.4). One that is not of the kind shows its
+/// own digits. `WRONG_DESCRIPTOR` (12) appends nothing: it comes for another descriptor, kind or value.
 pub fn int_field(
     edit: Edit,
     value: &Value,

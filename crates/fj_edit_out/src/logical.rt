@@ -16,7 +16,8 @@ fn truth_of(kind: Kind, value: &Value) -> Option<bool>
     }
 }
 
-/// Appends the field of a logical under L or G. Width 0 gives the letter alone.
+/// Appends the field of a logical under L or G (ISO/IEC 1539-1:2004, 10.6.2 and 10.6.4). Width 0 gives the letter alone.
+/// `WRONG_DESCRIPTOR` (12) appends nothing: it comes for another descriptor, kind or value.
 pub fn logical_field(
     edit: Edit,
     value: &Value,

@@ -107,7 +107,8 @@ fn add_row(
     Ok(count)
 }
 
-/// Appends the fields of the first integers of a row under `Iw`, up to a value that is none, and answers how many.
+/// Appends the fields of the first integers of a row under `Iw` (ISO/IEC 1539-1:2004, 10.6.1.1), up to a value that is none, and
+/// answers how many. Nothing but want of memory can come, and it appends nothing.
 pub fn integer_fields(
     w: u32,
     plus: bool,

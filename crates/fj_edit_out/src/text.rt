@@ -27,7 +27,8 @@ fn push_text(out: &mut Text, w: Option<u32>, characters: &[u8]) -> Result<(), Al
     push_behind_blanks(out, w - taken as u32, &characters[..taken])
 }
 
-/// Appends the field of characters under A or G. The number of characters is the value's own.
+/// Appends the field of characters under A or G (ISO/IEC 1539-1:2004, 10.6.3 and 10.6.4). The number of characters is the value's
+/// own. `WRONG_DESCRIPTOR` (12) appends nothing: it comes for another descriptor, kind or value.
 pub fn text_field(
     edit: Edit,
     value: &Value,

@@ -12,8 +12,8 @@ use Rattle.fj_format.specs.declared.place.FieldKind.TheVariants.{Integer, Logica
 use Rattle.fj_format.specs.declared.place.Tabbing.TheVariants.{To, Left, Right}
 use Rattle.fj_format.specs.declared.place.Purpose.{Purpose}
 use Rattle.fj_format.specs.declared.place.Purpose.TheVariants as purpose
-use Rattle.fj_format.specs.declared.place.Place.{Place}
-use Rattle.fj_format.specs.declared.place.Place.TheVariants as place
+use Rattle.fj_format.specs.declared.place.FormatPlace.{FormatPlace}
+use Rattle.fj_format.specs.declared.place.FormatPlace.TheVariants as place
 use Rattle.fj_format.specs.declared.symbol.Letter.{Letter}
 use Rattle.fj_format.specs.declared.symbol.Letter.TheVariants.{A, B, C, D, E, G, I, L, N, O, P, R, S, T, X, Z}
 use Rattle.fj_format.specs.declared.symbol.Symbol.{Symbol}
@@ -27,7 +27,7 @@ use Rattle.fj_format.proofs.Choices.{either, less, not_less, is_zero, not_zero}
 use Rattle.fj_format.proofs.Rest.{Ends, Closes, ClosesAs, After, Want, WantBody, BehindGeneral, BehindWidth, BehindNumber, InDigits, InNumber, InBlank, InSign, InDecimal, InTurn, InStar, AloneBlank, Instead, Rest, Moves}
 
 -- the numbers stay within their limits
-abbrev pub IsValid : Place → Type 0
+abbrev pub IsValid : FormatPlace → Type 0
 IsValid (place.More p n) = n ≤ greatest p
 IsValid _ = Unit {0}
 
@@ -361,7 +361,7 @@ closing_back ls xs Close t f h = (t, refl, h)
 closing_back ls xs _ t f h = absurd h
 
 -- The reader's step leads to what was left to be read before it.
-pub back : (p : Place) (ls : List Level) (xs : List FormatItem) (s : Symbol) (t : Marks) (f : List FormatItem) → IsValid p →
+pub back : (p : FormatPlace) (ls : List Level) (xs : List FormatItem) (s : Symbol) (t : Marks) (f : List FormatItem) → IsValid p →
     Moves (next_at p ls xs s) t f → Rest p ls xs (symbol s ∷ t) f
 back place.Begin ls xs s t f v h = begin_back ls xs s t f h
 back place.Opened ls xs s t f v h = opened_back ls xs s t f h
@@ -380,7 +380,7 @@ string_back : (ls : List Level) (xs : List FormatItem) (s : List ℕ) (t : Marks
 string_back ls xs s t f a = want_of ls xs (item.Str s) false (string s ∷ t) t f (plain (quoted s)) a
 
 -- the same of a string
-pub back_string : (p : Place) (ls : List Level) (xs : List FormatItem) (s : List ℕ) (t : Marks) (f : List FormatItem) → takes_text p ≡ true →
+pub back_string : (p : FormatPlace) (ls : List Level) (xs : List FormatItem) (s : List ℕ) (t : Marks) (f : List FormatItem) → takes_text p ≡ true →
     After ls (xs ++ item.Str s ∷ []) false t f → Rest p ls xs (string s ∷ t) f
 back_string place.Opened ls xs s t f e a = inr (string_back ls xs s t f a)
 back_string place.Wanted ls xs s t f e a = string_back ls xs s t f a

@@ -5,8 +5,8 @@ use base.Stored.{Coded-set}
 use Rattle.std.specs.Coded.{codes}
 use Rattle.fj_format.specs.contracts.item.FormatItem as contract
 use Rattle.fj_format.specs.declared.item.FormatItem.{FormatItem}
-use Rattle.fj_format.specs.declared.place.Place.{Place}
-use Rattle.fj_format.specs.declared.place.Place.TheVariants as place
+use Rattle.fj_format.specs.declared.place.FormatPlace.{FormatPlace}
+use Rattle.fj_format.specs.declared.place.FormatPlace.TheVariants as place
 use Rattle.fj_format.specs.declared.scanner.Scanner.{Scanner}
 use Rattle.fj_format.specs.Marks.{outside}
 use Rattle.fj_format.specs.Grammar.{IsFormat}
@@ -26,7 +26,7 @@ record One (text : List ℕ) : Type 0 where
 abbrev Decision : List ℕ → Type 0
 Decision text = One text ⊎ ((items : List FormatItem) → IsFormat text items → ⊥)
 
-is_done : (p : Place) → (p ≡ place.Done) ⊎ (p ≢ place.Done)
+is_done : (p : FormatPlace) → (p ≡ place.Done) ⊎ (p ≢ place.Done)
 is_done place.Done = inl refl
 is_done place.Begin = inr (λ e. cc)
 is_done place.Opened = inr (λ e. cc)

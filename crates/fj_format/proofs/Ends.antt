@@ -14,8 +14,8 @@ use Rattle.fj_format.specs.declared.place.FieldKind.{FieldKind}
 use Rattle.fj_format.specs.declared.place.FieldKind.TheVariants.{Integer, Logical, Characters, Generalized}
 use Rattle.fj_format.specs.declared.place.Purpose.{Purpose}
 use Rattle.fj_format.specs.declared.place.Purpose.TheVariants as purpose
-use Rattle.fj_format.specs.declared.place.Place.{Place}
-use Rattle.fj_format.specs.declared.place.Place.TheVariants as place
+use Rattle.fj_format.specs.declared.place.FormatPlace.{FormatPlace}
+use Rattle.fj_format.specs.declared.place.FormatPlace.TheVariants as place
 use Rattle.fj_format.specs.declared.symbol.Letter.{Letter}
 use Rattle.fj_format.specs.declared.symbol.Letter.TheVariants.{A, C, D, E, N, P, S, T, L, R, Z}
 use Rattle.fj_format.specs.declared.symbol.Symbol.{Symbol}
@@ -159,7 +159,7 @@ begin_valid : (ls : List Level) (xs : List FormatItem) (s : Symbol) → MovesVal
 begin_valid ls xs Open = tt
 begin_valid ls xs _ = tt
 
-pub valid : (p : Place) (ls : List Level) (xs : List FormatItem) (s : Symbol) → MovesValid (next_at p ls xs s)
+pub valid : (p : FormatPlace) (ls : List Level) (xs : List FormatItem) (s : Symbol) → MovesValid (next_at p ls xs s)
 valid place.Begin ls xs s = begin_valid ls xs s
 valid place.Opened ls xs s = opened_valid ls xs s
 valid place.Wanted ls xs s = start_valid ls xs s
@@ -327,7 +327,7 @@ starred_ended ls xs = record {
   };
 }
 
-pub place_ended : (p : Place) (ls : List Level) (xs : List FormatItem) → IsValid p → Ended (Rest p ls xs)
+pub place_ended : (p : FormatPlace) (ls : List Level) (xs : List FormatItem) → IsValid p → Ended (Rest p ls xs)
 place_ended place.Begin ls xs v = record { text = 40 ∷ 41 ∷ []; items = xs; ends = (symbol Close ∷ [], refl, inl ([], refl, refl)) }
 place_ended place.Opened ls xs v = record { text = 41 ∷ []; items = xs; ends = inl ([], refl, refl) }
 place_ended place.Wanted ls xs v = want_ended ls xs

@@ -15,8 +15,8 @@ use Rattle.fj_format.specs.declared.place.Tabbing.{Tabbing}
 use Rattle.fj_format.specs.declared.place.Tabbing.TheVariants.{To}
 use Rattle.fj_format.specs.declared.place.Purpose.{Purpose}
 use Rattle.fj_format.specs.declared.place.Purpose.TheVariants as purpose
-use Rattle.fj_format.specs.declared.place.Place.{Place}
-use Rattle.fj_format.specs.declared.place.Place.TheVariants as place
+use Rattle.fj_format.specs.declared.place.FormatPlace.{FormatPlace}
+use Rattle.fj_format.specs.declared.place.FormatPlace.TheVariants as place
 use Rattle.fj_format.specs.declared.symbol.Symbol.{Symbol}
 use Rattle.fj_format.specs.declared.symbol.Symbol.TheVariants.{Digit, Open, Close, Comma, Point, Slash, Colon, Star}
 use Rattle.fj_format.specs.Marks.{Mark, Marks, symbol, string}
@@ -274,7 +274,7 @@ no_digit (purpose.Tabs direction) n ls xs d t f h = h
 
 -- ---- a step forward from each place
 
-abbrev pub next_mark : Place → List Level → List FormatItem → Mark → Option Reader
+abbrev pub next_mark : FormatPlace → List Level → List FormatItem → Mark → Option Reader
 next_mark p ls xs (symbol s) = next_at p ls xs s
 next_mark p ls xs (string s) = next_text_at p ls xs s
 
@@ -361,7 +361,7 @@ closing_forward : (ls : List Level) (xs : List FormatItem) (t : Marks) (f : List
 closing_forward ls xs t f (u, e, is) = let P : Marks → Type 0 = λ l. MovesOn (next_mark place.Closing ls xs) l f in subst P (sym e) is
 
 -- What is left to be read goes on by the reader's step. The place is not the last one.
-pub forward : (p : Place) (ls : List Level) (xs : List FormatItem) (t : Marks) (f : List FormatItem) → Rest p ls xs t f → p ≢ place.Done → MovesOn (next_mark p ls xs) t f
+pub forward : (p : FormatPlace) (ls : List Level) (xs : List FormatItem) (t : Marks) (f : List FormatItem) → Rest p ls xs t f → p ≢ place.Done → MovesOn (next_mark p ls xs) t f
 forward place.Begin ls xs t f (t', e, h) q = let P : Marks → Type 0 = λ l. MovesOn (next_mark place.Begin ls xs) l f in subst P (sym e) h
 forward place.Opened ls xs t f (inl (u, e, h)) q = let P : Marks → Type 0 = λ l. MovesOn (next_mark place.Opened ls xs) l f in subst P (sym e) h
 forward place.Opened ls xs t f (inr w) q = opened_forward ls xs t f (want_forward ls xs t f w)

@@ -2,7 +2,7 @@
 use Rattle.std.proofs.Common.{ℕ, zero, suc, ◌+◌, ◌≡◌, ◌≢◌, ◌<◌, ◌≤◌, Bool, true, false, List, [], ◌∷◌, ◌++◌, length, take, drop, get_or, Option, Some, None, refl, sym, subst, ap, ◌∙◌, arith, append_assoc}
 use Rattle.std.proofs.lemmas.List.{take_more, take-append-drop}
 use Rattle.fj_format.specs.declared.item.FormatItem.{FormatItem}
-use Rattle.fj_format.specs.declared.place.Place.TheVariants.{Done}
+use Rattle.fj_format.specs.declared.place.FormatPlace.TheVariants.{Done}
 use Rattle.fj_format.specs.declared.scanner.Scanner.{Scanner}
 use Rattle.fj_format.specs.Marks.{outside}
 use Rattle.fj_format.specs.Grammar.{IsFormat, BeginsFormat}

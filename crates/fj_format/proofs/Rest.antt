@@ -14,8 +14,8 @@ use Rattle.fj_format.specs.declared.place.Tabbing.{Tabbing}
 use Rattle.fj_format.specs.declared.place.Tabbing.TheVariants.{To}
 use Rattle.fj_format.specs.declared.place.Purpose.{Purpose}
 use Rattle.fj_format.specs.declared.place.Purpose.TheVariants as purpose
-use Rattle.fj_format.specs.declared.place.Place.{Place}
-use Rattle.fj_format.specs.declared.place.Place.TheVariants as place
+use Rattle.fj_format.specs.declared.place.FormatPlace.{FormatPlace}
+use Rattle.fj_format.specs.declared.place.FormatPlace.TheVariants as place
 use Rattle.fj_format.specs.declared.symbol.Symbol.TheVariants.{Open, Close, Point}
 use Rattle.fj_format.specs.Marks.{Mark, Marks, symbol}
 use Rattle.fj_format.specs.Grammar.{Digits, Number, times, integer_edit, moved, Least, Exponent, Sign, Blank, Decimal, Turn, Body, Items, More}
@@ -170,7 +170,7 @@ Instead (purpose.Tabs To) ls xs t f = InTurn ls xs t f
 Instead _ ls xs t f = ⊥
 
 -- what is left to be read, and the format that it gives
-abbrev pub Rest : Place → List Level → List FormatItem → Marks → List FormatItem → Type 0
+abbrev pub Rest : FormatPlace → List Level → List FormatItem → Marks → List FormatItem → Type 0
 Rest place.Begin ls xs t f = (t' : Marks) × (t ≡ symbol Open ∷ t') × (Ends xs t' f ⊎ Want ls xs t' f)
 Rest place.Opened ls xs t f = Ends xs t f ⊎ Want ls xs t f
 Rest place.Wanted ls xs t f = Want ls xs t f

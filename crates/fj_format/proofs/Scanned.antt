@@ -5,9 +5,9 @@ use Rattle.fj_format.specs.declared.item.FormatItem.{FormatItem}
 use Rattle.fj_format.specs.declared.item.FormatItem.TheVariants.{Str}
 use Rattle.fj_format.specs.declared.level.Level.{Level}
 use Rattle.fj_format.specs.declared.reader.Reader.{Reader}
-use Rattle.fj_format.specs.declared.place.Place.{Place}
-use Rattle.fj_format.specs.declared.place.Place.TheVariants.{Done}
-use Rattle.fj_format.specs.declared.place.Place.TheVariants as place
+use Rattle.fj_format.specs.declared.place.FormatPlace.{FormatPlace}
+use Rattle.fj_format.specs.declared.place.FormatPlace.TheVariants.{Done}
+use Rattle.fj_format.specs.declared.place.FormatPlace.TheVariants as place
 use Rattle.fj_format.specs.declared.place.Radix.TheVariants.{Two}
 use Rattle.fj_format.specs.declared.place.Tabbing.TheVariants.{To}
 use Rattle.fj_format.specs.declared.place.FieldKind.{FieldKind}
@@ -63,7 +63,7 @@ other_behind (purpose.Width k Characters) n ls xs t f h = h
 other_behind (purpose.Width k Generalized) n ls xs t f h = elim (either (λ o. Moves o t f) (eqb n 0) _ _ h) [ inl e ↦ e.1 | inr e ↦ e.1 ]
 other_behind _ n ls xs t f h = h
 
-no_other : (p : Place) (ls : List Level) (xs : List FormatItem) (t : Marks) (f : List FormatItem) → Moves (next_at p ls xs Other) t f → ⊥
+no_other : (p : FormatPlace) (ls : List Level) (xs : List FormatItem) (t : Marks) (f : List FormatItem) → Moves (next_at p ls xs Other) t f → ⊥
 no_other (place.Behind true) ls xs t f h = h
 no_other (place.Behind false) ls xs t f h = h
 no_other (place.First (purpose.Width k kind)) ls xs t f h = other_begins ls xs kind k t f h
@@ -75,18 +75,18 @@ no_other _ ls xs t f h = h
 
 -- ---- a string stands only where it may
 
-string_may : (p : Place) (ls : List Level) (xs : List FormatItem) (s : List ℕ) (t : Marks) (f : List FormatItem) →
+string_may : (p : FormatPlace) (ls : List Level) (xs : List FormatItem) (s : List ℕ) (t : Marks) (f : List FormatItem) →
     Moves (next_mark p ls xs (string s)) t f → takes_text p ≡ true
 string_may p ls xs s t f h = elim (either (λ o. Moves o t f) (takes_text p) _ _ h) [ inl e ↦ e.0 | inr e ↦ absurd e.1 ]
 
 mutual
-  inside_may : (p : Place) (ls : List Level) (xs : List FormatItem) (q : ℕ) (s t : List ℕ) (f : List FormatItem) →
+  inside_may : (p : FormatPlace) (ls : List Level) (xs : List FormatItem) (q : ℕ) (s t : List ℕ) (f : List FormatItem) →
       MovesOn (next_mark p ls xs) (inside q s t) f → takes_text p ≡ true
   inside_may p ls xs q s [] f h = absurd (no_other p ls xs [] f h)
   inside_may p ls xs q s (c ∷ t) f h =
       elim (either (λ l. MovesOn (next_mark p ls xs) l f) (eqb c q) _ _ h) [ inl e ↦ closing_may p ls xs q s t f e.1 | inr e ↦ inside_may p ls xs q (s ++ c ∷ []) t f e.1 ]
 
-  closing_may : (p : Place) (ls : List Level) (xs : List FormatItem) (q : ℕ) (s t : List ℕ) (f : List FormatItem) →
+  closing_may : (p : FormatPlace) (ls : List Level) (xs : List FormatItem) (q : ℕ) (s t : List ℕ) (f : List FormatItem) →
       MovesOn (next_mark p ls xs) (closing q s t) f → takes_text p ≡ true
   closing_may p ls xs q s [] f h = string_may p ls xs s [] f h
   closing_may p ls xs q s (c ∷ t) f h =
@@ -207,7 +207,7 @@ scan_back s c t f v h = by_quote s.quote s.reader s.string c t f v h
 
 -- ---- what stays true of the scanner
 
-abbrev pub IsQuoteValid : Quote → Place → Type 0
+abbrev pub IsQuoteValid : Quote → FormatPlace → Type 0
 IsQuoteValid Outside p = Unit {0}
 IsQuoteValid (Inside q) p = (takes_text p ≡ true) × (is_quote q ≡ true)
 IsQuoteValid (Ended q) p = (takes_text p ≡ true) × (is_quote q ≡ true)
@@ -337,5 +337,5 @@ stands_done front rest s e h = h.back rest s.reader.items (subst (λ p. Rest p s
 
 pub stands_only : (front rest : List ℕ) (s : Scanner) (f : List FormatItem) → s.reader.place ≡ Done → Stands front s → IsFormat (front ++ rest) f → f ≡ s.reader.items
 stands_only front rest s f e h k =
-    let P : Place → Type 0 = λ p. Rest p s.reader.levels s.reader.items (marks_at s.quote s.string rest) f in
+    let P : FormatPlace → Type 0 = λ p. Rest p s.reader.levels s.reader.items (marks_at s.quote s.string rest) f in
     subst P e (h.there rest f k)

@@ -12,8 +12,8 @@ use Rattle.fj_format.specs.declared.place.FieldKind.TheVariants.{Integer, Logica
 use Rattle.fj_format.specs.declared.place.Tabbing.TheVariants.{To, Left, Right}
 use Rattle.fj_format.specs.declared.place.Purpose.{Purpose}
 use Rattle.fj_format.specs.declared.place.Purpose.TheVariants.{Count, Width, LeastDigits, Decimals, ExponentDigits, Tabs}
-use Rattle.fj_format.specs.declared.place.Place.{Place}
-use Rattle.fj_format.specs.declared.place.Place.TheVariants.{Begin, Opened, Wanted, Behind, First, More, SignLetter, DecimalLetter, Starred, Closing, Done}
+use Rattle.fj_format.specs.declared.place.FormatPlace.{FormatPlace}
+use Rattle.fj_format.specs.declared.place.FormatPlace.TheVariants.{Begin, Opened, Wanted, Behind, First, More, SignLetter, DecimalLetter, Starred, Closing, Done}
 use Rattle.fj_format.specs.declared.symbol.Letter.{Letter}
 use Rattle.fj_format.specs.declared.symbol.Letter.TheVariants.{A, B, C, D, E, G, I, L, N, O, P, R, S, T, X, Z}
 use Rattle.fj_format.specs.declared.symbol.Symbol.{Symbol}
@@ -34,7 +34,7 @@ abbrev pub greatest : Purpose → ℕ
 greatest (LeastDigits r x w) = most w
 greatest _ = 65536
 
-abbrev pub at : List Level → List FormatItem → Place → Option Reader
+abbrev pub at : List Level → List FormatItem → FormatPlace → Option Reader
 at ls xs p = Some (record { levels = ls; items = xs; place = p })
 
 -- what stands without a count alone
@@ -178,7 +178,7 @@ decimal_letter ls xs (symbol.Letter C) = at ls (xs ++ item.Mode step.Comma ∷ [
 decimal_letter ls xs (symbol.Letter P) = at ls (xs ++ item.Mode step.Point ∷ []) (Behind false)
 decimal_letter ls xs _ = None
 
-abbrev pub next_at : Place → List Level → List FormatItem → Symbol → Option Reader
+abbrev pub next_at : FormatPlace → List Level → List FormatItem → Symbol → Option Reader
 next_at Begin ls xs Open = at ls xs Opened
 next_at Begin ls xs _ = None
 next_at Opened ls xs Close = at ls xs Done
@@ -200,13 +200,13 @@ unfoldable pub next : Reader → Symbol → Option Reader
 next reader s = next_at reader.place reader.levels reader.items s
 
 -- whether a string may come
-abbrev pub takes_text : Place → Bool
+abbrev pub takes_text : FormatPlace → Bool
 takes_text Opened = true
 takes_text Wanted = true
 takes_text (Behind free) = free
 takes_text _ = false
 
-abbrev pub next_text_at : Place → List Level → List FormatItem → List ℕ → Option Reader
+abbrev pub next_text_at : FormatPlace → List Level → List FormatItem → List ℕ → Option Reader
 next_text_at p ls xs s = if takes_text p then at ls (xs ++ item.Str s ∷ []) (Behind false) else None
 
 -- the reader behind a string

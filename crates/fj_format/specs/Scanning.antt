@@ -1,7 +1,7 @@
 -- The scanner, one byte at a time.
 use Rattle.std.specs.Prelude.{ℕ, ◌≡◌, ◌==◌, if◌then◌else◌, List, [], ◌∷◌, ◌++◌, Option, Some, None}
 use Rattle.fj_format.specs.declared.reader.Reader.{Reader}
-use Rattle.fj_format.specs.declared.place.Place.TheVariants.{Begin}
+use Rattle.fj_format.specs.declared.place.FormatPlace.TheVariants.{Begin}
 use Rattle.fj_format.specs.declared.scanner.Quote.{Quote}
 use Rattle.fj_format.specs.declared.scanner.Quote.TheVariants.{Outside, Inside, Ended}
 use Rattle.fj_format.specs.declared.scanner.Scanner.{Scanner}

@@ -1,4 +1,4 @@
-// How many elementary items one pass of a format has.
+// How many elementary items one pass of a format has (ISO/IEC 1539-1:2004, 10.3).
 ghost use Rattle.std.specs.Prelude.{◌≡◌, ◌≤◌, ◌*◌, min, length};
 ghost use Rattle.fj_format.specs.Unfolding.{pass, written_out};
 

@@ -24,7 +24,7 @@ fn item_has_data(item: &FormatItem) -> bool
     }
 }
 
-/// Whether some item has a data descriptor.
+/// Whether some item is a data edit descriptor or has one inside (ISO/IEC 1539-1:2004, 10.2.1).
 #[cycle(data)]
 pub fn have_data(items: &[FormatItem]) -> bool
     ensures { result ≡ has_data (pass items.now) }

@@ -13,7 +13,7 @@ use std::alloc::{AllocError, Global};
 use std::marker::Model;
 use std::sync::Arc;
 
-/// A format, seen as the list of its items, which its clones share.
+/// A format (ISO/IEC 1539-1:2004, 10.1), seen as the list of its items, which its clones share.
 #[derive(Drop)]
 pub struct Format {
     items: Arc<FormatItems, Global>,
@@ -69,8 +69,9 @@ impl Format {
     }
 }
 
-/// Reads a format. Blanks and tabs have no effect outside strings, nor has anything behind the last
-/// parenthesis (10.1.1 and 10.1.2).
+/// Reads a format (ISO/IEC 1539-1:2004, 10.1.1, 10.1.2 and 10.2). Blanks and tabs have no effect outside strings, nor has anything
+/// after the last parenthesis. `NotAFormat` says how many bytes the longest prefix has that begins a format; `TooMany` comes where
+/// one pass has more than 1,000,000 elementary items.
 pub fn parse(alloc: Global, text: &[u8]) -> Result<Format, FormatFault>
     requires { length text.now < 2 ^ 32 }
     ensures { Parses text.now result }
@@ -82,7 +83,8 @@ pub fn parse(alloc: Global, text: &[u8]) -> Result<Format, FormatFault>
     }
 }
 
-/// Reads the items of a format, however long one pass of it is. It answers no `TooMany`.
+/// Reads the items of a format as `parse` does (ISO/IEC 1539-1:2004, 10.2), however long one pass of it is: `NotAFormat` comes, and
+/// never `TooMany`.
 pub fn parse_items(alloc: Global, text: &[u8]) -> Result<FormatItems, FormatFault>
     requires { length text.now < 2 ^ 32 }
     ensures { ParsesItems text.now result }

@@ -1,4 +1,4 @@
-// The parentheses that are open while a format is read.
+// The parentheses that are open while a format is read (ISO/IEC 1539-1:2004, 10.2).
 ghost use Rattle.std.specs.Prelude.{◌≡◌, [], ◌∷◌, length, MatchOption, OnOk, OnErr};
 
 use crate::item::FormatItems;

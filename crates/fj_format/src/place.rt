@@ -1,4 +1,4 @@
-// Where in a format a reader stands.
+// Where in a format a reader stands (ISO/IEC 1539-1:2004, 10.2).
 ghost use Rattle.std.specs.Prelude.{◌≡◌};
 ghost use Rattle.fj_format.specs.Grammar.{integer_edit, moved, most};
 ghost use Rattle.fj_format.specs.Reading.{smallest, greatest, takes_text};
@@ -51,7 +51,7 @@ pub enum Purpose {
 
 /// Where a reader stands.
 #[derive(Clone, Copy)]
-pub enum Place {
+pub enum FormatPlace {
     /// Before the first parenthesis.
     Begin,
     /// Behind the first parenthesis.
@@ -130,14 +130,14 @@ impl Purpose {
     }
 }
 
-impl Place {
+impl FormatPlace {
     /// Whether a character string may come.
     pub fn takes_string(self) -> bool
         ensures { result ≡ takes_text self }
     {
         match self {
-            Place::Opened | Place::Wanted => true,
-            Place::Behind(free) => free,
+            FormatPlace::Opened | FormatPlace::Wanted => true,
+            FormatPlace::Behind(free) => free,
             _ => false,
         }
     }

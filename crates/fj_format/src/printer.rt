@@ -181,7 +181,8 @@ fn push_items(items: &FormatItems, text: &mut Text) -> Result<(), AllocError>
     text.push_all(b")")
 }
 
-/// A text that is read as this format.
+/// A text that is read as this format and as no other (ISO/IEC 1539-1:2004, 10.2): upper case, all commas, and no blanks outside
+/// strings.
 pub fn print(alloc: Global, format: &Format) -> Result<Text, AllocError>
     ensures value { IfOk result (λ text. text ≡ printed format.now) }
     ensures reads { IfOk result (λ text. IsOnlyFormat text format.now) }

@@ -1,14 +1,14 @@
-// A format that is being read, one character outside its strings at a time.
+// A format that is being read, one character outside its strings at a time (ISO/IEC 1539-1:2004, 10.2).
 ghost use Rattle.std.specs.Prelude.{◌≡◌, ◌+◌, ◌*◌, [], ◌∷◌, ◌++◌};
 ghost use Rattle.fj_format.specs.Reading.{at, alone, by_letter, body, start, nested, opens, stars, starred, closed_as, closed, closing, between, ended, grown, behind_general, behind_width, behind_decimals, behind, blank_letter, tab_letter, instead_of_width, instead, sign_letter, decimal_letter, next, Answers, Takes};
 ghost use Rattle.fj_format.specs.declared.item.FormatItem.TheVariants.{Field};
-ghost use Rattle.fj_format.specs.declared.place.Place.TheVariants.{Begin, Behind, First, More, SignLetter, DecimalLetter};
+ghost use Rattle.fj_format.specs.declared.place.FormatPlace.TheVariants.{Begin, Behind, First, More, SignLetter, DecimalLetter};
 ghost use Rattle.fj_format.specs.declared.place.Purpose.TheVariants.{Width};
 
 use crate::data::have_data;
 use crate::item::{FormatItem, FormatItems, ModeStep};
 use crate::level::{Level, Levels};
-use crate::place::{FieldKind, Place, Purpose, Radix, Tabbing};
+use crate::place::{FieldKind, FormatPlace, Purpose, Radix, Tabbing};
 use crate::symbol::{Letter, Symbol};
 use fj_value::{Edit, Items};
 use std::alloc::{AllocError, Global};
@@ -20,7 +20,7 @@ use std::mem;
 pub struct Reader {
     pub levels: Levels,
     pub items: FormatItems,
-    pub place: Place,
+    pub place: FormatPlace,
 }
 
 /// A number with one more digit.
@@ -39,7 +39,7 @@ impl Reader {
         Reader {
             levels: Levels::new(alloc),
             items: Items::new(alloc),
-            place: Place::Begin,
+            place: FormatPlace::Begin,
         }
     }
 
@@ -48,11 +48,11 @@ impl Reader {
         ensures { Takes result (at self.old.levels (self.old.items ++ item ∷ []) (Behind free)) self.new }
     {
         self.items.push(item)?;
-        self.place = Place::Behind(free);
+        self.place = FormatPlace::Behind(free);
         Ok(true)
     }
 
-    fn go(&mut self, place: Place) -> bool
+    fn go(&mut self, place: FormatPlace) -> bool
         ensures { Answers (at self.old.levels self.old.items place) result self.new }
     {
         self.place = place;
@@ -60,7 +60,7 @@ impl Reader {
     }
 
     /// Goes on where no count may stand.
-    fn go_alone(&mut self, count: Option<u32>, place: Place) -> bool
+    fn go_alone(&mut self, count: Option<u32>, place: FormatPlace) -> bool
         ensures { Answers (alone count (at self.old.levels self.old.items place)) result self.new }
     {
         match count {
@@ -73,7 +73,7 @@ impl Reader {
     fn go_width(&mut self, count: Option<u32>, kind: FieldKind) -> bool
         ensures { Answers (at self.old.levels self.old.items (First (Width count kind))) result self.new }
     {
-        self.go(Place::First(Purpose::Width { count, kind }))
+        self.go(FormatPlace::First(Purpose::Width { count, kind }))
     }
 
     /// Goes on in a number that has this value so far.
@@ -81,7 +81,7 @@ impl Reader {
         ensures { Answers (grown purpose value self.old.levels self.old.items) result self.new }
     {
         if value <= u64::from(purpose.greatest()) {
-            self.go(Place::More(purpose, value as u32))
+            self.go(FormatPlace::More(purpose, value as u32))
         } else {
             false
         }
@@ -94,7 +94,7 @@ impl Reader {
         let inner = Items::new(self.items.allocator());
         let items = mem::replace(&mut self.items, inner);
         self.levels.push(Level { r, items })?;
-        self.place = Place::Wanted;
+        self.place = FormatPlace::Wanted;
         Ok(true)
     }
 
@@ -113,7 +113,7 @@ impl Reader {
         ensures { Answers (stars self.old.levels self.old.items) result self.new }
     {
         if self.levels.len() == 0 {
-            self.go(Place::Starred)
+            self.go(FormatPlace::Starred)
         } else {
             false
         }
@@ -138,7 +138,7 @@ impl Reader {
             None => {
                 if have_data(inner.as_slice()) {
                     self.items.push(FormatItem::Unlimited { items: inner })?;
-                    self.place = Place::Closing;
+                    self.place = FormatPlace::Closing;
                     Ok(true)
                 } else {
                     Ok(false)
@@ -152,7 +152,7 @@ impl Reader {
     {
         match self.levels.pop() {
             None => {
-                self.place = Place::Done;
+                self.place = FormatPlace::Done;
                 Ok(true)
             }
             Some(level) => {
@@ -168,7 +168,7 @@ impl Reader {
         ensures { Answers (closing self.old.levels self.old.items symbol) result self.new }
     {
         match symbol {
-            Symbol::Close => self.go(Place::Done),
+            Symbol::Close => self.go(FormatPlace::Done),
             _ => false,
         }
     }
@@ -179,13 +179,13 @@ impl Reader {
         match letter {
             Letter::A => Ok(self.go_width(count, FieldKind::Characters)),
             Letter::B => Ok(self.go_width(count, FieldKind::Integer(Radix::Two))),
-            Letter::D => Ok(self.go_alone(count, Place::DecimalLetter)),
+            Letter::D => Ok(self.go_alone(count, FormatPlace::DecimalLetter)),
             Letter::G => Ok(self.go_width(count, FieldKind::Generalized)),
             Letter::I => Ok(self.go_width(count, FieldKind::Integer(Radix::Ten))),
             Letter::L => Ok(self.go_width(count, FieldKind::Logical)),
             Letter::O => Ok(self.go_width(count, FieldKind::Integer(Radix::Eight))),
-            Letter::S => Ok(self.go_alone(count, Place::SignLetter)),
-            Letter::T => Ok(self.go_alone(count, Place::First(Purpose::Tabs(Tabbing::To)))),
+            Letter::S => Ok(self.go_alone(count, FormatPlace::SignLetter)),
+            Letter::T => Ok(self.go_alone(count, FormatPlace::First(Purpose::Tabs(Tabbing::To)))),
             Letter::X => self.put(FormatItem::Skip(count.unwrap_or(1)), false),
             Letter::Z => Ok(self.go_width(count, FieldKind::Integer(Radix::Sixteen))),
             _ => Ok(false),
@@ -224,7 +224,7 @@ impl Reader {
         ensures { Takes result (between free self.old.levels self.old.items symbol) self.new }
     {
         match symbol {
-            Symbol::Comma => Ok(self.go(Place::Wanted)),
+            Symbol::Comma => Ok(self.go(FormatPlace::Wanted)),
             Symbol::Close => self.close(),
             Symbol::Slash | Symbol::Colon => self.take_body(None, symbol),
             _ if free => self.take_start(symbol),
@@ -255,7 +255,7 @@ impl Reader {
             return self.end_field(r, Edit::General { w, d: 0 }, symbol);
         }
         match symbol {
-            Symbol::Point => Ok(self.go(Place::First(Purpose::Decimals { r, w }))),
+            Symbol::Point => Ok(self.go(FormatPlace::First(Purpose::Decimals { r, w }))),
             _ => Ok(false),
         }
     }
@@ -273,7 +273,7 @@ impl Reader {
         let r = count.unwrap_or(1);
         match (kind, symbol) {
             (FieldKind::Integer(radix), Symbol::Point) => {
-                Ok(self.go(Place::First(Purpose::LeastDigits { r, radix, w })))
+                Ok(self.go(FormatPlace::First(Purpose::LeastDigits { r, radix, w })))
             }
             (FieldKind::Integer(radix), _) => { self.end_field(r, radix.edit(w, None), symbol) }
             (FieldKind::Logical, _) => { self.end_field(r, Edit::Log { w }, symbol) }
@@ -293,7 +293,7 @@ impl Reader {
         ensures { Takes result (behind_decimals r w d self.old.levels self.old.items symbol) self.new }
     {
         match symbol {
-            Symbol::Letter(Letter::E) => Ok(self.go(Place::First(Purpose::ExponentDigits {
+            Symbol::Letter(Letter::E) => Ok(self.go(FormatPlace::First(Purpose::ExponentDigits {
                 r,
                 w,
                 d,
@@ -336,8 +336,8 @@ impl Reader {
         ensures { Answers (tab_letter self.old.levels self.old.items symbol) result self.new }
     {
         match symbol {
-            Symbol::Letter(Letter::L) => self.go(Place::First(Purpose::Tabs(Tabbing::Left))),
-            Symbol::Letter(Letter::R) => self.go(Place::First(Purpose::Tabs(Tabbing::Right))),
+            Symbol::Letter(Letter::L) => self.go(FormatPlace::First(Purpose::Tabs(Tabbing::Left))),
+            Symbol::Letter(Letter::R) => self.go(FormatPlace::First(Purpose::Tabs(Tabbing::Right))),
             _ => false,
         }
     }
@@ -400,27 +400,27 @@ impl Reader {
         ensures { Takes result (next self.old symbol) self.new }
     {
         match (self.place, symbol) {
-            (Place::Begin, Symbol::Open) => Ok(self.go(Place::Opened)),
-            (Place::Begin | Place::Done, _) => Ok(false),
-            (Place::Opened, Symbol::Close) => Ok(self.go(Place::Done)),
-            (Place::Opened | Place::Wanted, _) => self.take_start(symbol),
-            (Place::Behind(free), _) => self.take_between(free, symbol),
-            (Place::First(purpose), Symbol::Digit(d)) => Ok(self.grow(purpose, u64::from(d))),
-            (Place::First(purpose), _) => self.take_instead(purpose, symbol),
-            (Place::More(purpose, n), Symbol::Digit(d)) => {
+            (FormatPlace::Begin, Symbol::Open) => Ok(self.go(FormatPlace::Opened)),
+            (FormatPlace::Begin | FormatPlace::Done, _) => Ok(false),
+            (FormatPlace::Opened, Symbol::Close) => Ok(self.go(FormatPlace::Done)),
+            (FormatPlace::Opened | FormatPlace::Wanted, _) => self.take_start(symbol),
+            (FormatPlace::Behind(free), _) => self.take_between(free, symbol),
+            (FormatPlace::First(purpose), Symbol::Digit(d)) => Ok(self.grow(purpose, u64::from(d))),
+            (FormatPlace::First(purpose), _) => self.take_instead(purpose, symbol),
+            (FormatPlace::More(purpose, n), Symbol::Digit(d)) => {
                 Ok(self.grow(purpose, with_digit(n, d)))
             }
-            (Place::More(purpose, n), _) => {
+            (FormatPlace::More(purpose, n), _) => {
                 if n < purpose.smallest() {
                     Ok(false)
                 } else {
                     self.take_behind(purpose, n, symbol)
                 }
             }
-            (Place::SignLetter, _) => self.take_sign_letter(symbol),
-            (Place::DecimalLetter, _) => self.take_decimal_letter(symbol),
-            (Place::Starred, _) => self.take_starred(symbol),
-            (Place::Closing, _) => Ok(self.take_closing(symbol)),
+            (FormatPlace::SignLetter, _) => self.take_sign_letter(symbol),
+            (FormatPlace::DecimalLetter, _) => self.take_decimal_letter(symbol),
+            (FormatPlace::Starred, _) => self.take_starred(symbol),
+            (FormatPlace::Closing, _) => Ok(self.take_closing(symbol)),
         }
     }
 }

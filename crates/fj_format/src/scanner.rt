@@ -1,11 +1,11 @@
-// A format that is being read, one byte at a time: its strings, and the symbols between them.
+// A format that is being read, one byte at a time: its strings, and the symbols between them (ISO/IEC 1539-1:2004, 10.2).
 ghost use Rattle.std.specs.Prelude.{◌≡◌, ◌↔◌, [], IfOk, IsTrue};
 ghost use Rattle.fj_format.specs.Reading.{next_text, Takes};
 ghost use Rattle.fj_format.specs.Scanning.{first, outside_char, scan, IsClear};
-ghost use Rattle.fj_format.specs.declared.place.Place.TheVariants.{Done};
+ghost use Rattle.fj_format.specs.declared.place.FormatPlace.TheVariants.{Done};
 
 use crate::item::{FormatItem, FormatItems};
-use crate::place::Place;
+use crate::place::FormatPlace;
 use crate::reader::Reader;
 use crate::symbol::{as_symbol, is_blank_char, is_quote_char};
 use fj_value::Text;
@@ -52,7 +52,7 @@ impl Scanner {
         ensures { IsTrue result ↔ (self.now.reader.place ≡ Done) }
     {
         match self.reader.place {
-            Place::Done => true,
+            FormatPlace::Done => true,
             _ => false,
         }
     }

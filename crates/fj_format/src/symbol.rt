@@ -1,4 +1,4 @@
-// The characters of a format outside its strings.
+// The characters of a format outside its strings (ISO/IEC 1539-1:2004, 10.2).
 ghost use Rattle.std.specs.Prelude.{◌≡◌};
 ghost use Rattle.fj_format.specs.Symbols.{is_blank, is_quote, is_digit, upper, letter_of, symbol_of};
 

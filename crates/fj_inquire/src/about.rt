@@ -1,4 +1,4 @@
-// What a statement asks about.
+// What a statement asks about (ISO/IEC 1539-1:2004, 9.9).
 
 use crate::connected::Connected;
 use fj_connect::Look;

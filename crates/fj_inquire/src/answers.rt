@@ -1,4 +1,4 @@
-// The answer to one question, as a value for a variable of a kind.
+// The answer to one question, as a value for a variable of a kind (ISO/IEC 1539-1:2004, 9.9.1).
 ghost use Rattle.std.specs.Prelude.{◌≡◌, IfOk};
 ghost use Rattle.fj_inquire.specs.Inquiring.{value_for, edit_word, record_length, next_record, position, size, connected_answer, unit_answer, file_answer, answer_to};
 ghost use Rattle.fj_inquire.specs.Asking.{seen};

@@ -27,9 +27,9 @@ fn inquire(alloc: Global, about: About, asked: &Asked, out: &mut Cells) -> Resul
     Ok(())
 }
 
-/// Adds a cell with the answer to each question about a unit, in order. The look at the connection, which NEXTREC=, POS=
-/// and SIZE= are answered by, comes behind all pending transfers of the unit; `pending` says whether the transfer in
-/// question is one of them. After want of memory `out` is of no account.
+/// Adds a cell with the answer to each question about a unit, in order (ISO/IEC 1539-1:2004, 9.9.1). The look at the connection,
+/// which NEXTREC=, POS= and SIZE= are answered by, comes after all pending transfers of the unit; `pending` says whether the
+/// transfer in question is one of them. No condition comes. After want of memory `out` is of no account.
 pub fn inquire_unit(
     alloc: Global,
     unit: i64,
@@ -50,7 +50,7 @@ pub fn inquire_unit(
     }
 }
 
-/// The same about a file, which exists or not, and may be connected to a unit.
+/// The same about a file (ISO/IEC 1539-1:2004, 9.9.1), which exists or not, and may be connected to a unit.
 pub fn inquire_file(
     alloc: Global,
     name: &FileName,

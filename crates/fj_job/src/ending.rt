@@ -19,7 +19,7 @@ ghost use Rattle.fj_job.specs.Losing.{first_lost, settled_by};
 ghost use Rattle.fj_job.specs.Cut.{Anywhere};
 ghost use Rattle.fj_job.specs.Executing.{AreClosed, IsSettled, IsCarriedOut, IsConcluded, IsExecuted, IsFaultReported, IsFrontReported, IsWriteReported};
 
-use crate::carrying::{carry, carry_with};
+use crate::execution::{carry, carry_with};
 use crate::middle::{Middle, traced};
 use crate::ready::{Ready, ready_for};
 use crate::report::{fault_report, run_report, status_of};

@@ -2,8 +2,8 @@
 #![tactic(auto)]
 
 mod asked;
-mod carrying;
 mod ending;
+mod execution;
 mod job;
 mod laws;
 mod made;

@@ -30,7 +30,7 @@ pub enum Read {
     Wrong(Condition),
 }
 
-/// The number of decimal digits, and `u64::MAX` for one that is greater.
+/// The number that decimal digits are, and `u64::MAX` for one that is greater; `None` where there are none, or other characters.
 pub fn number(chars: &[u8]) -> Option<u64>
     ensures { result ≡ option_map (λ n. min n (2 ^ 64 - 1)) (number_in 10 chars.now) }
 {
@@ -119,7 +119,8 @@ fn read_delimited(alloc: Global, kind: Kind, chars: &[u8]) -> Result<Read, Alloc
     }
 }
 
-/// What a constant is for an item of a kind.
+/// What a constant is for an item of a kind (ISO/IEC 1539-1:2004, 10.9.1). `Wrong` has `NO_VALUE` (13) where the characters are no
+/// constant of the kind, and `OUT_OF_RANGE` (14) where it does not have the integer.
 pub fn read_as(alloc: Global, kind: Kind, form: Form, chars: &[u8]) -> Result<Read, AllocError>
     ensures { IfOk result (λ read. read ≡ read_as kind form chars.now) }
 {

@@ -1,4 +1,4 @@
-// Laws of list-directed text.
+// Laws of list-directed text (ISO/IEC 1539-1:2004, 10.9).
 ghost use Rattle.fj_list.specs.Breaks.{RecordsBreakWhereFull, RecordsAreUnique};
 ghost use Rattle.fj_list.specs.ConstantLaws.{IntegersAreRead, ConstantsAreOfKind, CellsKeepKinds};
 ghost use Rattle.fj_list.specs.Cuts.{ConstantsMayBeCut};

@@ -23,6 +23,19 @@ fn kind_at(cells: &Cells, at: u32) -> Kind
     cells.as_slice()[at as usize].kind
 }
 
+/// Gives a value to a cell (ISO/IEC 1539-1:2004, 16.5.5).
+pub fn define(cells: &mut Cells, at: usize, value: Value)
+    requires { at < length cells.old }
+    ensures value { cells.new ≡ with_value cells.old at value }
+    ensures places { places_of cells.new ≡ places_of cells.old }
+    ensures count { length cells.new ≡ length cells.old }
+{
+    let cell = &cells.as_slice()[at];
+    let place = cell.place;
+    let kind = cell.kind;
+    cells.replace(at, Cell { place, kind, value });
+}
+
 /// Serves the constant at hand to an item, or answers the condition where its characters are no value of the item's
 /// kind.
 pub fn serve(
@@ -82,8 +95,10 @@ fn read_items<R: Records>(
     Ok(Condition::Fine)
 }
 
-/// Reads values for the items from the next record on (ISO/IEC 1539-1:2004, 10.9.1). `next` is called for no more records
-/// than are looked at: those left are those behind them. After a `Stop` nothing is said of the values.
+/// Reads values for the items from the next record on (ISO/IEC 1539-1:2004, 10.9.1). The condition is `Fine`; or of the first
+/// constant that is none for its item `NO_VALUE` (13) or `OUT_OF_RANGE` (14); or, where the records end before all items have
+/// values, the one in which they end, mostly `EndOfFile`. `next` is called for no more records than are looked at: the others are
+/// left. After a `Stop` nothing is said of the values.
 pub fn read_list<R: Records>(
     alloc: Global,
     records: &mut R,

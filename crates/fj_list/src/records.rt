@@ -1,4 +1,4 @@
-// Where list-directed and namelist input take their records from.
+// Where list-directed and namelist input take their records from (ISO/IEC 1539-1:2004, 10.9.1 and 10.10.1).
 ghost use Rattle.std.specs.Prelude.{◌≡◌, ◌≢◌, ◌<◌, ◌≤◌, ◌↔◌, List, ℕ, Option, None, IfOk};
 ghost use Rattle.fj_outside.specs.Faults.{Rose};
 ghost use Rattle.fj_value.specs.declared.condition.Condition.{Condition};
@@ -57,7 +57,8 @@ pub trait Records {
         ensures { result ≡ count self.now };
 }
 
-/// Replaces a text by the next record. Where there is none it answers the condition in which the records end.
+/// Replaces a text by the next record. Where there is none it answers the condition in which the records end, which is never
+/// `Fine`.
 pub fn next_line<R: Records>(records: &mut R, line: &mut Text) -> Result<Option<Condition>, Stop>
     ensures telling { R.tells records.old ↔ R.tells records.new }
     ensures contents { R.tells records.old → IfOk result (λ end. IsNext end

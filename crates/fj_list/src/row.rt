@@ -1,4 +1,4 @@
-// Integers of list-directed output, one after another in a record.
+// Integers of list-directed output, one after another in a record (ISO/IEC 1539-1:2004, 10.9.2).
 ghost use Rattle.std.specs.Prelude.{◌≡◌, ◌+◌, ◌<◌, ◌≤◌, ◌∷◌, ◌++◌, All, length, take, flat_map, IfSome, IfNone};
 ghost use Rattle.std.specs.Fmt.{decimal};
 ghost use Rattle.fj_list.specs.ListText.{integer_shown};

@@ -45,21 +45,21 @@ pub fn is_blank(c: u8) -> bool
     c == b' ' || c == b'\t'
 }
 
-/// A comma, or under DECIMAL='COMMA' a semicolon.
+/// A comma, or under DECIMAL='COMMA' a semicolon (ISO/IEC 1539-1:2004, 10.9).
 pub fn is_separator(comma: bool, c: u8) -> bool
     ensures { result ≡ is_separator comma c }
 {
     c == if comma { b';' } else { b',' }
 }
 
-/// A blank, a tab, a separator or a slash.
+/// A blank, a tab, a separator or a slash: a constant without delimiters ends before it (ISO/IEC 1539-1:2004, 10.9).
 pub fn ends_constant(comma: bool, c: u8) -> bool
     ensures { result ≡ ends_constant comma c }
 {
     is_blank(c) || is_separator(comma, c) || c == b'/'
 }
 
-/// An apostrophe or a quotation mark.
+/// An apostrophe or a quotation mark, the delimiters of a constant (ISO/IEC 1539-1:2004, 10.9.1).
 pub fn is_mark(c: u8) -> bool
     ensures { result ≡ is_mark c }
 {

@@ -90,7 +90,7 @@ fn push_characters(out: &mut Text, mark: Option<u8>, characters: &[u8]) -> Resul
     out.push_all(&[mark])
 }
 
-/// Appends the text of a value, or after want of memory a part of it.
+/// Appends the text of a value in list-directed output (ISO/IEC 1539-1:2004, 10.9.2), or after want of memory a part of it.
 pub fn push_value(out: &mut Text, modes: EditModes, value: &Value) -> Result<(), AllocError>
     ensures ok { OnOk result (out.new ≡ out.old ++ shown modes value.now) }
     ensures kept { take (length out.old) out.new ≡ out.old }

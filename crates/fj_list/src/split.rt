@@ -1,4 +1,4 @@
-// Values split off records.
+// Values split off records (ISO/IEC 1539-1:2004, 10.9.1).
 ghost use Rattle.std.specs.Prelude.{◌≡◌, ◌<◌, ◌≤◌, ◌↔◌, length, false, IfOk, None};
 ghost use Rattle.fj_outside.specs.Faults.{Rose};
 ghost use Rattle.fj_list.specs.Stream.{stream, skipped};

@@ -206,6 +206,7 @@ fn put_values(
 }
 
 /// Writes values as list-directed output on a record that begins (ISO/IEC 1539-1:2004, 10.9.2), and ends the last record.
+/// `Unwritten` has the first limit of the page that it meets, `RECORD_TOO_LONG` (15) or `OUTPUT_TOO_LONG` (26), or want of memory.
 pub fn put_list(
     page: &mut Page,
     text: &mut Text,
@@ -236,7 +237,8 @@ fn push_records(alloc: Global, moved: &Moved, modes: EditModes) -> Result<Text, 
     }
 }
 
-/// The records of the items' values, each followed by a line feed (ISO/IEC 1539-1:2004, 10.9.2).
+/// The records of the items' values, each with a line feed after it (ISO/IEC 1539-1:2004, 10.9.2). Nothing but want of memory can
+/// come.
 pub fn write_list(alloc: Global, moved: &Moved, modes: EditModes) -> Result<Text, AllocError>
     ensures text { IfOk result (λ text. text ≡ text_of (listed modes (values_in (items_of moved.now)))) }
 

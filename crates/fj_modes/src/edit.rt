@@ -6,7 +6,7 @@ ghost use Rattle.fj_modes.specs.Modes.{usual_edit, edit_asked};
 use crate::specifiers::OpenSpec;
 use fj_value::{Delim, EditModes};
 
-/// The modes of formatted editing where no specifier gives another.
+/// The modes of formatted editing where no specifier gives another (ISO/IEC 1539-1:2004, 9.4.5).
 pub fn usual_edit() -> EditModes
     ensures { result ≡ usual_edit }
 {

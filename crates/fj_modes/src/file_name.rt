@@ -16,7 +16,7 @@ fn are_file_bytes(bytes: &[u8]) -> bool
     bytes.iter().all(|c| c.is_ascii_alphanumeric() || *c == b'.' || *c == b'_' || *c == b'-')
 }
 
-/// Whether bytes are a name that a deck may spell.
+/// Whether bytes are a name that FILE= of a deck may spell (ISO/IEC 1539-1:2004, 9.4.5.8, leaves names to the processor).
 #[tactic(auto, unfolding(crate::specs::FileName::is_file_name, crate::specs::FileName::is_disk_name))]
 pub fn is_file_name(bytes: &[u8]) -> bool
     ensures { result ≡ is_file_name bytes.now }

@@ -1,4 +1,4 @@
-//! What OPEN asks for, the modes of a connection, and what INQUIRE may ask.
+//! What OPEN asks for, the modes of a connection, and what INQUIRE may ask (ISO/IEC 1539-1:2004, 9.4.1, 9.4.5 and 9.9.1).
 #![tactic(auto)]
 
 mod asked;

@@ -61,8 +61,8 @@ impl Modes {
             || (!self.formatted && names_edit_mode(spec))
     }
 
-    /// The change by an OPEN of the unit whose file stays connected (9.4.5). FILE= is not looked at. What may not
-    /// change, or does not belong to the connection, is error 8.
+    /// The change by an OPEN of the unit whose file stays connected (ISO/IEC 1539-1:2004, 9.4.5). FILE= is not looked at. What may
+    /// not change, or does not belong to the connection, is `FIXED_MODE` (8), and nothing changes.
     pub fn change(&mut self, spec: &OpenSpec) -> Result<(), Condition>
         ensures ok { OnOk result (changed self.old spec.now ≡ Ok self.new) }
         ensures err { IfErr result (λ condition. changed self.old spec.now ≡ Err condition) }

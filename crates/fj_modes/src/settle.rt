@@ -81,8 +81,8 @@ fn modes_asked(spec: &OpenSpec) -> Modes
     }
 }
 
-/// The modes of a new connection: each as the statement gives it, else by default. A statement whose specifiers do
-/// not go together is error 3.
+/// The modes of a new connection (ISO/IEC 1539-1:2004, 9.4.5): each as the statement gives it, else by default. A statement whose
+/// specifiers do not go together is `BAD_SPECIFIERS` (3).
 pub fn settle_open(spec: &OpenSpec) -> Result<Modes, Condition>
     ensures settled { result ≡ settled spec.now }
     ensures refused { (result ≡ Err (Condition.Error 3)) ↔ IsRefused spec.now }

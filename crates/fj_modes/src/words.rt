@@ -1,4 +1,4 @@
-// The words that name modes: one table for each kind of words.
+// The words that name modes: one table for each kind of words (ISO/IEC 1539-1:2004, 9.4.5 and 9.4.6).
 ghost use Rattle.std.specs.Prelude.{◌≡◌, map};
 ghost use Rattle.std.specs.Str.{str_eq_ignore_ascii_case};
 ghost use Rattle.fj_modes.specs.ModeWords.{mode_of};

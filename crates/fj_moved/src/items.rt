@@ -25,7 +25,7 @@ pub struct Run<'a> {
     pub values: Values<'a>,
 }
 
-/// The items of an output that are left, in their order. They are borrowed.
+/// The items of an output that are left, in their order (ISO/IEC 1539-1:2004, 9.5.2). They are borrowed.
 #[derive(Clone, Copy)]
 pub enum OutputItems<'a> {
     /// The values of a row, each with one item.

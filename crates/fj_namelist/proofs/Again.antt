@@ -26,8 +26,8 @@ use Rattle.fj_list.specs.declared.constant.Read.{Read}
 use Rattle.fj_list.specs.declared.constant.Read.TheVariants as read
 use Rattle.fj_list.proofs.Plain.{magnitude, integer_plain, integer_again, assigned_whole}
 use Rattle.fj_namelist.specs.declared.place.Elements.{Elements}
-use Rattle.fj_namelist.specs.declared.place.Place.{Place}
-use Rattle.fj_namelist.specs.declared.place.Place.TheVariants as place
+use Rattle.fj_namelist.specs.declared.place.GroupPlace.{GroupPlace}
+use Rattle.fj_namelist.specs.declared.place.GroupPlace.TheVariants as place
 use Rattle.fj_namelist.specs.GroupInput.{Result, ended, elements, constant_read, given_to, filled, word_given, value_taken, taken, Name, name_of, name_at, begun_at, begun, place_of, either_taken, tokens_taken, group_read}
 use Rattle.fj_namelist.specs.Heading.{Heading, heading, heading_in, named}
 use Rattle.fj_namelist.proofs.Filling.{fill_on}
@@ -238,7 +238,7 @@ word_given_to : (comma : Bool) (e : Elements) (word : List ℕ) (i : ℕ) (cells
 word_given_to comma e word i cells w next all there is =
     ap (λ (o : Option (Option ℕ)). word_given o (behind_star word) word e i cells next) (no_repeat comma word all) ∙ constant_given e Undelimited word i cells w next there is
 
-value_given : (modes : EditModes) (e : Elements) (k : Kind) (w : Value) (i : ℕ) (cells : List Cell) (next : Place → List Cell → Result) → IsMarked modes.delim → e.kind ≡ k → IsOfKind k w → i < e.count
+value_given : (modes : EditModes) (e : Elements) (k : Kind) (w : Value) (i : ℕ) (cells : List Cell) (next : GroupPlace → List Cell → Result) → IsMarked modes.delim → e.kind ≡ k → IsOfKind k w → i < e.count
     → value_taken (token_of modes w) e i true cells next ≡ next (place.At e (i + 1) false) (with_value cells (e.first + i) w)
 value_given modes e Int4 (v.Int z) i cells next h same kind there =
     let m = magnitude 32 z (omega arith) kind in
@@ -330,12 +330,12 @@ member_found members m among shared =
     let found = found_in members (λ (y : GroupMember). same_name y.name u) m among (name_upper m.name m.name ∙ same_self (str_to_ascii_lowercase m.name)) in
     (found.0, (found.1.0, shared m found.0 among found.1.1 (sym (name_upper found.0.name m.name) ∙ found.1.2)))
 
-name_taken : (modes : EditModes) (members : List GroupMember) (m : GroupMember) (p : Place) (ts : List Token) (cells : List Cell) → IsName m.name → IsAmong m members → ShareCells members
+name_taken : (modes : EditModes) (members : List GroupMember) (m : GroupMember) (p : GroupPlace) (ts : List Token) (cells : List Cell) → IsName m.name → IsAmong m members → ShareCells members
     → tokens_taken members p 0 (token.Word (str_to_ascii_uppercase m.name) ∷ token.Equals ∷ ts) cells ≡ tokens_taken members (place.At (elements m) 0 true) 0 ts cells
 name_taken modes members m p ts cells is among shared =
     let u = str_to_ascii_uppercase m.name in
     let tail = token.Equals ∷ ts in
-    let next : Place → ℕ → List Cell → Result = λ p' more cells'. tokens_taken members p' more tail cells' in
+    let next : GroupPlace → ℕ → List Cell → Result = λ p' more cells'. tokens_taken members p' more tail cells' in
     let found = member_found members m among shared in
     ap (λ (d : Option Designator). either_taken (begun_at members (name_of 1 d)) (token.Word u) p cells next) (designates modes.comma m.name is)
     ∙ ap (λ (o : Option GroupMember). begun (record { place = place_of o None; more = 1 }) cells (place_of o None) next) found.1.0
@@ -345,7 +345,7 @@ name_taken modes members m p ts cells is among shared =
       designates comma (c ∷ cs) h = word_designates comma (to_ascii_uppercase c) (str_to_ascii_uppercase cs) (name_in comma (c ∷ cs) h.all)
 
 member_taken : (modes : EditModes) (members : List GroupMember) (m : GroupMember) (vs : List Value) (rest : List Token) (cells : List Cell) → IsMarked modes.delim → AreOfKind m.kind vs → length vs ≤ m.count → Quiet modes.comma rest
-    → (p : Place) × (tokens_taken members (place.At (elements m) 0 true) 0 (values_after modes vs ++ rest) cells ≡ tokens_taken members p 0 rest (with_values_from m.first vs cells))
+    → (p : GroupPlace) × (tokens_taken members (place.At (elements m) 0 true) 0 (values_after modes vs ++ rest) cells ≡ tokens_taken members p 0 rest (with_values_from m.first vs cells))
 member_taken modes members m [] rest cells h kinds within quiet = (place.At (elements m) 0 true, refl)
 member_taken modes members m (w ∷ ws) rest cells h kinds within quiet =
     let count : length (w ∷ ws) ≡ suc (length ws) = refl in
@@ -365,7 +365,7 @@ all_among (m ∷ ms) members h = (h m (inl refl), all_among ms members (λ x amo
 few_values : (m : GroupMember) (written : List Cell) → length (values_of m written) ≤ m.count
 few_values m written = simp (length-map, length-take) (omega arith)
 
-members_taken : (modes : EditModes) (members ms : List GroupMember) (written : List Cell) (p : Place) (cells : List Cell) → IsMarked modes.delim → AreWritten written ms → AllAmong ms members → ShareCells members
+members_taken : (modes : EditModes) (members ms : List GroupMember) (written : List Cell) (p : GroupPlace) (cells : List Cell) → IsMarked modes.delim → AreWritten written ms → AllAmong ms members → ShareCells members
     → tokens_taken members p 0 (group_tokens modes ms written) cells ≡ ended (with_members ms written cells) Fine
 members_taken modes members [] written place.Due cells h all among shared = refl
 members_taken modes members [] written (place.At e i begins) cells h all among shared = refl

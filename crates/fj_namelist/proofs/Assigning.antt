@@ -30,8 +30,8 @@ use Rattle.fj_namelist.specs.declared.token.Token.{Token}
 use Rattle.fj_namelist.specs.declared.token.Token.TheVariants as token
 use Rattle.fj_namelist.specs.declared.token.State.TheVariants.{Between, InWord, Done}
 use Rattle.fj_namelist.specs.declared.place.Elements.{Elements}
-use Rattle.fj_namelist.specs.declared.place.Place.{Place}
-use Rattle.fj_namelist.specs.declared.place.Place.TheVariants as place
+use Rattle.fj_namelist.specs.declared.place.GroupPlace.{GroupPlace}
+use Rattle.fj_namelist.specs.declared.place.GroupPlace.TheVariants as place
 use Rattle.fj_namelist.specs.Names.{Designator, designated, designator, subscripted, with_subscript, subscript_in, closed_number, member_of, same_name, is_opening, ends_at_equals}
 use Rattle.fj_namelist.specs.Tokens.{lexed, stepped}
 use Rattle.fj_namelist.specs.GroupInput.{Result, ended, elements, element_of, place_of, constant_read, given_to, filled, Name, name_of, name_at, is_equals, begun_at, begun, either_taken, tokens_taken}
@@ -80,7 +80,7 @@ no_subscript_calm (Some d) = go d.subscript where
 
 -- what follows does the same from each place
 abbrev pub Continues : List GroupMember → List Token → (List Cell → Result) → Type 0
-Continues members ts next = (p : Place) (cells : List Cell) → tokens_taken members p 0 ts cells ≡ next cells
+Continues members ts next = (p : GroupPlace) (cells : List Cell) → tokens_taken members p 0 ts cells ≡ next cells
 
 -- a constant for elements
 given_same : (r : Read) (e : Elements) (i : ℕ) (cells : List Cell) (next next' : List Cell → Result) → ((cells' : List Cell) → next cells' ≡ next' cells') → given_to r e i cells next ≡ given_to r e i cells next'
@@ -247,7 +247,7 @@ values_read comma fresh _ fresh' s _ w (text.null_value {t} {gs} c is gap more) 
     }
 
 -- an assignment begins
-abbrev opened : Option Place → List Cell → (Place → Result) → Result
+abbrev opened : Option GroupPlace → List Cell → (GroupPlace → Result) → Result
 opened None cells next = ended cells (Error 23)
 opened (Some p) cells next = next p
 
@@ -255,7 +255,7 @@ record Opens (comma fresh : Bool) (name : List ℕ) (n : Option ℕ) (s t : Stre
   tokens : List Token
   leads : Leads comma (Between fresh) s tokens (Between false) t
   calm : (ts : List Token) → Calm (tokens ++ ts)
-  takes : (members : List GroupMember) (p : Place) (ts : List Token) (cells : List Cell) → AreCounted members
+  takes : (members : List GroupMember) (p : GroupPlace) (ts : List Token) (cells : List Cell) → AreCounted members
       → tokens_taken members p 0 (tokens ++ ts) cells ≡ opened (place_of (member_of members name) n) cells (λ p'. tokens_taken members p' 0 ts cells)
   parses : (ts : List Token) (begins : Bool) → parsed 0 begins (tokens ++ ts) ≡ assigned name n (parsed 0 true ts)
   finishes : (ts : List Token) → finish_of (tokens ++ ts) ≡ finish_of ts
@@ -456,18 +456,18 @@ whole_opens comma fresh (c ∷ cs) s t is gap =
           ∙ ap (λ (x : List ℕ). assigned w (number_of_word x) r) (none_left w);
       finishes = λ ts. refl;
     } where
-      by : (members : List GroupMember) (ts : List Token) (cells : List Cell) (o : Option Place)
+      by : (members : List GroupMember) (ts : List Token) (cells : List Cell) (o : Option GroupPlace)
           → begun (record { place = o; more = 1 }) cells o (λ p' more cells'. tokens_taken members p' more (token.Equals ∷ ts) cells') ≡ opened o cells (λ p'. tokens_taken members p' 0 ts cells)
       by members ts cells None = refl
       by members ts cells (Some p) = refl
 
 -- a subscript directly behind its name, or behind a gap
-begun_two : (members : List GroupMember) (ts : List Token) (cells : List Cell) (u : Token) (o : Option Place)
+begun_two : (members : List GroupMember) (ts : List Token) (cells : List Cell) (u : Token) (o : Option GroupPlace)
     → begun (record { place = o; more = 2 }) cells o (λ p' more cells'. tokens_taken members p' more (u ∷ token.Equals ∷ ts) cells') ≡ opened o cells (λ p'. tokens_taken members p' 0 ts cells)
 begun_two members ts cells u None = refl
 begun_two members ts cells u (Some p) = refl
 
-begun_one : (members : List GroupMember) (ts : List Token) (cells : List Cell) (o : Option Place)
+begun_one : (members : List GroupMember) (ts : List Token) (cells : List Cell) (o : Option GroupPlace)
     → begun (record { place = o; more = 1 }) cells o (λ p' more cells'. tokens_taken members p' more (token.Equals ∷ ts) cells') ≡ opened o cells (λ p'. tokens_taken members p' 0 ts cells)
 begun_one members ts cells None = refl
 begun_one members ts cells (Some p) = refl
@@ -510,7 +510,7 @@ element_opens comma fresh (c ∷ cs) ds n s t u is number gap gap' = go (gap_or 
         takes = λ members q ts cells counted.
             ap (λ (d : Option Designator). either_taken (begun_at members (name_of 1 d)) (token.Word w) q cells (λ p' more cells'. tokens_taken members p' more (token.Equals ∷ ts) cells')) designates
             ∙ begun_one members ts cells (place_of (member_of members name) (Some (bounded n)))
-            ∙ ap (λ (o : Option Place). opened o cells (λ p'. tokens_taken members p' 0 ts cells)) (place_bounded members name n counted);
+            ∙ ap (λ (o : Option GroupPlace). opened o cells (λ p'. tokens_taken members p' 0 ts cells)) (place_bounded members name n counted);
         parses = λ ts begins.
             let r = parsed 0 true ts in
             let word_parsed : Option Name → Parsed = λ o. either_parsed o begins (token.Word w) (Some token.Equals) (λ more b. parsed more b (token.Equals ∷ ts)) in
@@ -547,7 +547,7 @@ element_opens comma fresh (c ∷ cs) ds n s t u is number gap gap' = go (gap_or 
             ap (λ (d : Option Designator). either_taken (begun_at members (name_of 2 (with_subscript d (subscript_in sub)))) (token.Word name) r cells (λ p' more cells'. tokens_taken members p' more (token.Word sub ∷ token.Equals ∷ ts) cells')) designates
             ∙ ap (λ (o : Option ℕ). either_taken (begun_at members (name_of 2 (subscripted name None o))) (token.Word name) r cells (λ p' more cells'. tokens_taken members p' more (token.Word sub ∷ token.Equals ∷ ts) cells')) inside
             ∙ begun_two members ts cells (token.Word sub) place_there
-            ∙ ap (λ (o : Option Place). opened o cells (λ p'. tokens_taken members p' 0 ts cells)) (place_bounded members name n counted);
+            ∙ ap (λ (o : Option GroupPlace). opened o cells (λ p'. tokens_taken members p' 0 ts cells)) (place_bounded members name n counted);
         parses = λ ts begins.
             let r = parsed 0 true ts in
             let word_parsed : Option Name → Parsed = λ o. either_parsed o begins (token.Word name) (Some (token.Word sub)) (λ more b. parsed more b (token.Word sub ∷ token.Equals ∷ ts)) in
@@ -565,7 +565,7 @@ named_opens comma fresh _ _ _ t (text.whole {s} name is gap) = whole_opens comma
 named_opens comma fresh _ _ _ u (text.element {s} {t} name ds n is number gap gap') = element_opens comma fresh name ds n s t u is number gap gap'
 
 -- where the values of an assignment go
-opened_given : (o : Option GroupMember) (n : Option ℕ) (cs : List Constant) (cells : List Cell) (next : Place → Result) (last : List Cell → Result)
+opened_given : (o : Option GroupMember) (n : Option ℕ) (cs : List Constant) (cells : List Cell) (next : GroupPlace → Result) (last : List Cell → Result)
     → ((e : Elements) (i : ℕ) → next (place.At e i true) ≡ all_given e i cs cells last) → opened (place_of o n) cells next ≡ assigned_at (place_of o n) cs cells last
 opened_given None n cs cells next last same = refl
 opened_given (Some m) None cs cells next last same = same (elements m) 0
@@ -607,7 +607,7 @@ assignments_mean comma fresh s _ _ t (text.slash gap) =
       slash_parsed true = refl
       slash_parsed false = refl
 
-      slash_taken : (members : List GroupMember) (p : Place) (cells : List Cell) → tokens_taken members p 0 (token.Slash ∷ []) cells ≡ ended cells Fine
+      slash_taken : (members : List GroupMember) (p : GroupPlace) (cells : List Cell) → tokens_taken members p 0 (token.Slash ∷ []) cells ≡ ended cells Fine
       slash_taken members place.Due cells = refl
       slash_taken members (place.At e i begins) cells = refl
 assignments_mean comma fresh s _ _ _ (text.records_end gap) =
@@ -624,7 +624,7 @@ assignments_mean comma fresh s _ _ _ (text.records_end gap) =
       end_parsed e true = refl
       end_parsed e false = refl
 
-      end_taken : (members : List GroupMember) (e : Condition) (p : Place) (cells : List Cell) → tokens_taken members p 0 (token.End e ∷ []) cells ≡ ended cells e
+      end_taken : (members : List GroupMember) (e : Condition) (p : GroupPlace) (cells : List Cell) → tokens_taken members p 0 (token.End e ∷ []) cells ≡ ended cells e
       end_taken members e place.Due cells = refl
       end_taken members e (place.At e' i begins) cells = refl
 assignments_mean comma fresh s _ f w (text.assignment {fresh'} {t} {u} {v} {a} {rest} gap name values more) =

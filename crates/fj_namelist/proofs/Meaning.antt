@@ -13,7 +13,7 @@ use Rattle.fj_list.specs.Grammar.{IsBlank, Finish}
 use Rattle.fj_list.proofs.GrammarLaws.{blank_true, blank_or}
 use Rattle.fj_list.proofs.StreamLaws.{records_behind-stream}
 use Rattle.fj_namelist.specs.declared.token.State.TheVariants.{Between}
-use Rattle.fj_namelist.specs.declared.place.Place.TheVariants as place
+use Rattle.fj_namelist.specs.declared.place.GroupPlace.TheVariants as place
 use Rattle.fj_namelist.specs.Names.{same_name}
 use Rattle.fj_namelist.specs.Tokens.{Lexed, Group}
 use Rattle.fj_namelist.specs.GroupInput.{Result, tokens_taken, group_read}

@@ -22,8 +22,8 @@ use Rattle.fj_namelist.specs.declared.token.Token.{Token}
 use Rattle.fj_namelist.specs.declared.token.Token.TheVariants as token
 use Rattle.fj_namelist.specs.declared.token.State.TheVariants.{Between, InWord, Inside}
 use Rattle.fj_namelist.specs.declared.place.Elements.{Elements}
-use Rattle.fj_namelist.specs.declared.place.Place.{Place}
-use Rattle.fj_namelist.specs.declared.place.Place.TheVariants as place
+use Rattle.fj_namelist.specs.declared.place.GroupPlace.{GroupPlace}
+use Rattle.fj_namelist.specs.declared.place.GroupPlace.TheVariants as place
 use Rattle.fj_namelist.specs.Names.{starred, ranged, repeat_in, behind_star}
 use Rattle.fj_namelist.specs.Tokens.{lexed, marked, stepped}
 use Rattle.fj_namelist.specs.GroupInput.{Result, filled, word_given, value_taken}
@@ -195,7 +195,7 @@ value_of _ = given 1 Null []
 pub record IsToken (comma fresh fresh' : Bool) (g : Given) (s t : Stream) (tok : Token) : Type 0 where
   pub leads : Leads comma (Between fresh) s (tok ∷ []) (Between fresh') t
   pub is : value_of tok ≡ g
-  pub gives : (e : Elements) (i : ℕ) (begins : Bool) (cells : List Cell) (next : Place → List Cell → Result) → value_taken tok e i begins cells next ≡ filled e g.form g.characters g.count i cells (λ i' cells'. next (place.At e i' false) cells')
+  pub gives : (e : Elements) (i : ℕ) (begins : Bool) (cells : List Cell) (next : GroupPlace → List Cell → Result) → value_taken tok e i begins cells next ≡ filled e g.form g.characters g.count i cells (λ i' cells'. next (place.At e i' false) cells')
 
 -- a word or a constant
 abbrev pub IsValueToken : Token → Type 0

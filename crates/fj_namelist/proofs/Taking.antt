@@ -6,8 +6,8 @@ use Rattle.fj_value.specs.declared.value.Cell.{Cell}
 use Rattle.fj_moved.specs.declared.moved.GroupMember.{GroupMember}
 use Rattle.fj_namelist.specs.declared.token.Token.{Token}
 use Rattle.fj_namelist.specs.declared.token.Token.TheVariants as token
-use Rattle.fj_namelist.specs.declared.place.Place.{Place}
-use Rattle.fj_namelist.specs.declared.place.Place.TheVariants as place
+use Rattle.fj_namelist.specs.declared.place.GroupPlace.{GroupPlace}
+use Rattle.fj_namelist.specs.declared.place.GroupPlace.TheVariants as place
 use Rattle.fj_namelist.specs.Names.{same_name, member_of}
 use Rattle.fj_namelist.specs.GroupText.{IsWithin}
 use Rattle.fj_namelist.specs.GroupInput.{Name, element_of, place_of, name_at, begun_at, either_taken, tokens_taken}
@@ -41,14 +41,14 @@ begun_within cells members None h = tt
 begun_within cells members (Some name) h = place_within cells (member_of members name.designator.name) name.designator.subscript (found_within cells name.designator.name members h)
 
 -- a token, and then the others
-pub take_first : (members : List GroupMember) (tokens : List Token) (i : ℕ) (t : Token) (p : Place) (cells : List Cell) → i < length tokens → t ≡ get_or tokens i t
+pub take_first : (members : List GroupMember) (tokens : List Token) (i : ℕ) (t : Token) (p : GroupPlace) (cells : List Cell) → i < length tokens → t ≡ get_or tokens i t
     → tokens_taken members p 0 (drop i tokens) cells
     ≡ either_taken (begun_at members (name_at t (slice_get (drop (i + 1) tokens) 0) (slice_get (drop (i + 1) tokens) 1))) t p cells (λ p' more cells'. tokens_taken members p' more (drop (i + 1) tokens) cells')
 take_first members tokens i t p cells within is =
     ap (λ (ts : List Token). tokens_taken members p 0 ts cells) (drop_more tokens i t within ∙ ap (λ (x : Token). x ∷ drop (i + 1) tokens) (sym is))
 
 -- a token that was taken with another one
-pub take_skipped : (members : List GroupMember) (tokens : List Token) (i skip : ℕ) (p : Place) (cells : List Cell) → i < length tokens → 0 < skip
+pub take_skipped : (members : List GroupMember) (tokens : List Token) (i skip : ℕ) (p : GroupPlace) (cells : List Cell) → i < length tokens → 0 < skip
     → tokens_taken members p skip (drop i tokens) cells ≡ tokens_taken members p (skip - 1) (drop (i + 1) tokens) cells
 take_skipped members tokens i skip p cells within some = go skip some where
   go : (n : ℕ) → 0 < n → tokens_taken members p n (drop i tokens) cells ≡ tokens_taken members p (n - 1) (drop (i + 1) tokens) cells

@@ -18,8 +18,8 @@ use Rattle.fj_namelist.specs.declared.token.Token.TheVariants as token
 use Rattle.fj_namelist.specs.declared.token.State.TheVariants.{Between}
 use Rattle.fj_namelist.specs.declared.place.Elements.{Elements}
 use Rattle.fj_namelist.specs.declared.place.Begun.{Begun}
-use Rattle.fj_namelist.specs.declared.place.Place.{Place}
-use Rattle.fj_namelist.specs.declared.place.Place.TheVariants as place
+use Rattle.fj_namelist.specs.declared.place.GroupPlace.{GroupPlace}
+use Rattle.fj_namelist.specs.declared.place.GroupPlace.TheVariants as place
 use Rattle.fj_namelist.specs.Names.{Designator, member_of, designator, subscript_in, with_subscript, repeat_in, behind_star}
 use Rattle.fj_namelist.specs.Tokens.{lines_lexed}
 use Rattle.fj_namelist.specs.Heading.{Heading, named, misnamed, missing, heading}
@@ -36,11 +36,11 @@ ended cells condition = record { cells = cells; condition = condition }
 abbrev pub elements : GroupMember → Elements
 elements m = record { kind = m.kind; first = m.first; count = m.count }
 
-abbrev pub element_of : GroupMember → Option ℕ → Option Place
+abbrev pub element_of : GroupMember → Option ℕ → Option GroupPlace
 element_of m None = Some (place.At (elements m) 0 true)
 element_of m (Some n) = if m.scalar || ((n == 0) || nat_lt m.count n) then None else Some (place.At (elements m) (n - 1) true)
 
-abbrev pub place_of : Option GroupMember → Option ℕ → Option Place
+abbrev pub place_of : Option GroupMember → Option ℕ → Option GroupPlace
 place_of None n = None
 place_of (Some m) n = element_of m n
 
@@ -73,12 +73,12 @@ abbrev pub no_value : Elements → ℕ → List Cell → Result
 no_value e i cells = ended cells (if nat_lt i e.count then Error 13 else Error 23)
 
 -- a separator: behind a value it is that value's, else there is a null value before it
-abbrev pub separated : Elements → ℕ → Bool → List Cell → (Place → List Cell → Result) → Result
+abbrev pub separated : Elements → ℕ → Bool → List Cell → (GroupPlace → List Cell → Result) → Result
 separated e i false cells next = next (place.At e i true) cells
 separated e i true cells next = if nat_lt i e.count then next (place.At e (i + 1) true) cells else ended cells (Error 23)
 
 -- a token among the values of a member, from an element on
-abbrev pub value_taken : Token → Elements → ℕ → Bool → List Cell → (Place → List Cell → Result) → Result
+abbrev pub value_taken : Token → Elements → ℕ → Bool → List Cell → (GroupPlace → List Cell → Result) → Result
 value_taken token.Separator e i begins cells next = separated e i begins cells next
 value_taken (token.Word w) e i begins cells next = word_given (repeat_in w) (behind_star w) w e i cells (λ i' cells'. next (place.At e i' false) cells')
 value_taken (token.Constant n cs) e i begins cells next = filled e Delimited cs n i cells (λ i' cells'. next (place.At e i' false) cells')
@@ -95,7 +95,7 @@ due_condition (token.End condition) = condition
 due_condition _ = Error 24
 
 -- a token that is no name
-abbrev pub taken : Token → Place → List Cell → (Place → List Cell → Result) → Result
+abbrev pub taken : Token → GroupPlace → List Cell → (GroupPlace → List Cell → Result) → Result
 taken t place.Due cells next = ended cells (due_condition t)
 taken t (place.At e i begins) cells next = value_taken t e i begins cells next
 
@@ -124,16 +124,16 @@ begun_at members None = None
 begun_at members (Some name) = Some (record { place = place_of (member_of members name.designator.name) name.designator.subscript; more = name.more })
 
 -- 23 where there are none
-abbrev pub begun : Begun → List Cell → Option Place → (Place → ℕ → List Cell → Result) → Result
+abbrev pub begun : Begun → List Cell → Option GroupPlace → (GroupPlace → ℕ → List Cell → Result) → Result
 begun b cells None next = ended cells (Error 23)
 begun b cells (Some place) next = next place b.more cells
 
-abbrev pub either_taken : Option Begun → Token → Place → List Cell → (Place → ℕ → List Cell → Result) → Result
+abbrev pub either_taken : Option Begun → Token → GroupPlace → List Cell → (GroupPlace → ℕ → List Cell → Result) → Result
 either_taken (Some b) t place cells next = begun b cells b.place next
 either_taken None t place cells next = taken t place cells (λ place' cells'. next place' 0 cells')
 
 -- the tokens one after another, but for so many that a name took
-abbrev pub tokens_taken : List GroupMember → Place → ℕ → List Token → List Cell → Result
+abbrev pub tokens_taken : List GroupMember → GroupPlace → ℕ → List Token → List Cell → Result
 tokens_taken members place skip [] cells = ended cells Fine
 tokens_taken members place (suc skip) (t ∷ ts) cells = tokens_taken members place skip ts cells
 tokens_taken members place zero (t ∷ ts) cells = either_taken (begun_at members (name_at t (slice_get ts 0) (slice_get ts 1))) t place cells (λ place' more cells'. tokens_taken members place' more ts cells')

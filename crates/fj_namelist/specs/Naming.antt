@@ -1,14 +1,14 @@
 -- What the names of assignments name (ISO/IEC 1539-1:2004, 10.10.1.1).
 use Rattle.std.specs.Prelude.{◌≡◌, ℕ, ◌+◌, ◌<◌, ◌≤◌, true, false, List, ◌∷◌, Option, Some, None}
-use Rattle.fj_moved.specs.declared.moved.GroupMember.{GroupMember}
-use Rattle.fj_namelist.specs.declared.place.Place.{Place}
-use Rattle.fj_namelist.specs.declared.place.Place.TheVariants as place
+use Rattle.fj_list.specs.declared.moved.GroupMember.{GroupMember}
+use Rattle.fj_namelist.specs.declared.place.GroupPlace.{GroupPlace}
+use Rattle.fj_namelist.specs.declared.place.GroupPlace.TheVariants as place
 use Rattle.fj_namelist.specs.Names.{same_name, member_of}
 use Rattle.fj_namelist.specs.GroupInput.{elements, element_of}
 use Rattle.fj_namelist.specs.GroupReadAgain.{IsAmong}
 
 -- An element of an array is named by its number, counted from 1; a scalar has no subscript, and no other number names one.
-pub record NamesElement (m : GroupMember) (n : ℕ) (named : Option Place) : Type 0 where
+pub record NamesElement (m : GroupMember) (n : ℕ) (named : Option GroupPlace) : Type 0 where
   pub there : (i : ℕ) → m.scalar ≡ false → i + 1 ≡ n → n ≤ m.count → named ≡ Some (place.At (elements m) i true)
   pub scalar : m.scalar ≡ true → named ≡ None
   pub below : n ≡ 0 → named ≡ None

@@ -9,8 +9,8 @@ use Rattle.fj_list.specs.Cuts.{characters}
 use Rattle.fj_list.specs.Grammar.{IsBlank, Finish}
 use Rattle.fj_list.specs.Understood.{Constant, constants, end_of}
 use Rattle.fj_namelist.specs.declared.place.Elements.{Elements}
-use Rattle.fj_namelist.specs.declared.place.Place.{Place}
-use Rattle.fj_namelist.specs.declared.place.Place.TheVariants as place
+use Rattle.fj_namelist.specs.declared.place.GroupPlace.{GroupPlace}
+use Rattle.fj_namelist.specs.declared.place.GroupPlace.TheVariants as place
 use Rattle.fj_namelist.specs.Names.{same_name, member_of}
 use Rattle.fj_namelist.specs.GroupInput.{Result, ended, constant_read, given_to, place_of, group_input}
 use Rattle.fj_namelist.specs.Grammar.{Gap, BeginsBlank, Assignment, IsGroupText}
@@ -22,7 +22,7 @@ all_given e i [] cells next = next cells
 all_given e i (c ∷ cs) cells next = if nat_lt i e.count then given_to (constant_read e.kind c.0 c.1) e i cells (λ cells'. all_given e (i + 1) cs cells' next) else ended cells (Error 23)
 
 -- 23 where there is no member of the name, or no element of the subscript
-abbrev pub assigned_at : Option Place → List Constant → List Cell → (List Cell → Result) → Result
+abbrev pub assigned_at : Option GroupPlace → List Constant → List Cell → (List Cell → Result) → Result
 assigned_at None cs cells next = ended cells (Error 23)
 assigned_at (Some place.Due) cs cells next = next cells
 assigned_at (Some (place.At e i begins)) cs cells next = all_given e i cs cells next

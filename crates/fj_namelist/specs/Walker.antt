@@ -3,8 +3,8 @@ use Rattle.std.specs.Prelude.{ℕ, ◌+◌, ◌≤◌, List, Option, Some, None}
 use Rattle.fj_value.specs.declared.value.Cell.{Cell}
 use Rattle.fj_value.specs.declared.condition.Condition.{Condition}
 use Rattle.fj_namelist.specs.declared.place.Begun.{Begun}
-use Rattle.fj_namelist.specs.declared.place.Place.{Place}
-use Rattle.fj_namelist.specs.declared.place.Place.TheVariants as place
+use Rattle.fj_namelist.specs.declared.place.GroupPlace.{GroupPlace}
+use Rattle.fj_namelist.specs.declared.place.GroupPlace.TheVariants as place
 use Rattle.fj_namelist.specs.declared.place.Filled.{Filled}
 use Rattle.fj_namelist.specs.declared.place.Filled.TheVariants as filled
 use Rattle.fj_namelist.specs.declared.place.Taken.{Taken}
@@ -20,12 +20,12 @@ abbrev pub fills : Filled → List Cell → (ℕ → List Cell → Result) → R
 fills (filled.To i) cells next = next i cells
 fills (filled.Stopped condition) cells next = ended cells condition
 
-abbrev pub takes : Taken → List Cell → (Place → List Cell → Result) → Result
+abbrev pub takes : Taken → List Cell → (GroupPlace → List Cell → Result) → Result
 takes (taken.On place) cells next = next place cells
 takes (taken.Stopped condition) cells next = ended cells condition
 
 -- the elements have cells among so many
-abbrev pub IsPlace : ℕ → Place → Type 0
+abbrev pub IsPlace : ℕ → GroupPlace → Type 0
 IsPlace cells place.Due = Unit {0}
 IsPlace cells (place.At e i begins) = e.first + e.count ≤ cells
 
@@ -33,7 +33,7 @@ abbrev pub IsTaken : ℕ → Taken → Type 0
 IsTaken cells (taken.On place) = IsPlace cells place
 IsTaken cells (taken.Stopped condition) = Unit {0}
 
-abbrev pub MayPlace : ℕ → Option Place → Type 0
+abbrev pub MayPlace : ℕ → Option GroupPlace → Type 0
 MayPlace cells None = Unit {0}
 MayPlace cells (Some place) = IsPlace cells place
 

@@ -1,4 +1,4 @@
-// The group's name in namelist input.
+// The group's name in namelist input (ISO/IEC 1539-1:2004, 10.10.1).
 ghost use Rattle.std.specs.Prelude.{◌≡◌, ◌<◌, ◌≤◌, ◌↔◌, length, drop, IfOk, IfSome, MatchOption, None, Some, List, ℕ};
 ghost use Rattle.fj_value.specs.declared.condition.Condition.{Condition};
 ghost use Rattle.fj_outside.specs.Faults.{Rose};

@@ -1,4 +1,4 @@
-// Laws of namelist text.
+// Laws of namelist text (ISO/IEC 1539-1:2004, 10.10).
 ghost use Rattle.fj_namelist.specs.Breaks.{MembersBreakWhereFull};
 ghost use Rattle.fj_namelist.specs.GroupReadAgain.{GroupsAreReadAgain};
 ghost use Rattle.fj_namelist.specs.Naming.{ElementsAreNamed};

@@ -3,7 +3,7 @@
 
 mod heading;
 mod laws;
-mod lexing;
+mod lexer;
 mod member;
 mod names;
 mod place;

@@ -1,4 +1,4 @@
-// Members of a group, and what tokens give to their elements.
+// Members of a group, and what tokens give to their elements (ISO/IEC 1539-1:2004, 10.10.1).
 ghost use Rattle.std.specs.Prelude.{◌≡◌, ◌+◌, ◌<◌, ◌≤◌, length, IfOk, List, ℕ, false};
 ghost use Rattle.std.specs.Option.{option_copied};
 ghost use Rattle.fj_value.specs.declared.value.Cell.{Cell};
@@ -8,7 +8,7 @@ ghost use Rattle.fj_namelist.specs.GroupInput.{Result, elements, element_of, pla
 ghost use Rattle.fj_namelist.specs.Walker.{goes, fills, takes, IsPlace, IsTaken};
 
 use crate::names::{behind_star, repeat_in, same_name};
-use crate::place::{Elements, Filled, Place, Taken};
+use crate::place::{Elements, Filled, GroupPlace, Taken};
 use crate::token::Token;
 use fj_list::{Form, Read, read_as};
 use fj_moved::{Cells, GroupMember, define};
@@ -24,7 +24,7 @@ fn member_of<'a>(members: &'a [GroupMember], name: &[u8]) -> Option<&'a GroupMem
         .find(|member| same_name(member.name.bytes(), name))
 }
 
-fn element_of(member: &GroupMember, subscript: Option<u64>) -> Option<Place>
+fn element_of(member: &GroupMember, subscript: Option<u64>) -> Option<GroupPlace>
     ensures { result ≡ element_of member.now subscript }
 {
     let _count = member.count;
@@ -34,16 +34,16 @@ fn element_of(member: &GroupMember, subscript: Option<u64>) -> Option<Place>
         count: member.count,
     };
     let Some(n) = subscript else {
-        return Some(Place::At(all, 0, true));
+        return Some(GroupPlace::At(all, 0, true));
     };
     if member.scalar || n == 0 || n > u64::from(member.count) {
         return None;
     }
-    Some(Place::At(all, (n - 1) as u32, true))
+    Some(GroupPlace::At(all, (n - 1) as u32, true))
 }
 
 /// Where the values of an assignment go.
-pub fn place_of(members: &[GroupMember], name: &[u8], subscript: Option<u64>) -> Option<Place>
+pub fn place_of(members: &[GroupMember], name: &[u8], subscript: Option<u64>) -> Option<GroupPlace>
     ensures { result ≡ place_of (member_of members.now name.now) subscript }
 {
     element_of(member_of(members, name)?, subscript)
@@ -137,26 +137,26 @@ fn give_word(
 }
 
 fn separated(e: Elements, i: u32, begins: bool) -> Taken
-    ensures taken { (cells : List Cell) (next : Place → List Cell → Result) →
+    ensures taken { (cells : List Cell) (next : GroupPlace → List Cell → Result) →
         separated e i begins cells next ≡ takes result cells next }
     ensures there { (cells : ℕ) → e.first + e.count ≤ cells → IsTaken cells result }
 {
     if !begins {
-        return Taken::On(Place::At(e, i, true));
+        return Taken::On(GroupPlace::At(e, i, true));
     }
     if i >= e.count {
         return Taken::Stopped(Condition::NOT_IN_GROUP);
     }
-    Taken::On(Place::At(e, i + 1, true))
+    Taken::On(GroupPlace::At(e, i + 1, true))
 }
 
 fn behind_value(e: Elements, to: Filled) -> Taken
-    ensures taken { (cells : List Cell) (next : Place → List Cell → Result) →
-        fills to cells (λ i cells'. next (Place.At e i false) cells') ≡ takes result cells next }
+    ensures taken { (cells : List Cell) (next : GroupPlace → List Cell → Result) →
+        fills to cells (λ i cells'. next (GroupPlace.At e i false) cells') ≡ takes result cells next }
     ensures there { (cells : ℕ) → e.first + e.count ≤ cells → IsTaken cells result }
 {
     match to {
-        Filled::To(i) => Taken::On(Place::At(e, i, false)),
+        Filled::To(i) => Taken::On(GroupPlace::At(e, i, false)),
         Filled::Stopped(condition) => Taken::Stopped(condition),
     }
 }
@@ -171,7 +171,7 @@ fn take_value(
     begins: bool,
 ) -> Result<Taken, AllocError>
     requires { e.first + e.count ≤ length cells.old }
-    ensures taken { IfOk result (λ on. (next : Place → List Cell → Result) →
+    ensures taken { IfOk result (λ on. (next : GroupPlace → List Cell → Result) →
         value_taken token.now e i begins cells.old next ≡ takes on cells.new next) }
     ensures there { IfOk result (λ on. IsTaken (length cells.new) on) }
     ensures places { places_of cells.new ≡ places_of cells.old }
@@ -206,17 +206,17 @@ pub fn take_token(
     alloc: Global,
     cells: &mut Cells,
     token: &Token,
-    place: Place,
+    place: GroupPlace,
 ) -> Result<Taken, AllocError>
     requires { IsPlace (length cells.old) place }
-    ensures taken { IfOk result (λ on. (next : Place → List Cell → Result) →
+    ensures taken { IfOk result (λ on. (next : GroupPlace → List Cell → Result) →
         taken token.now place cells.old next ≡ takes on cells.new next) }
     ensures there { IfOk result (λ on. IsTaken (length cells.new) on) }
     ensures places { places_of cells.new ≡ places_of cells.old }
     ensures count { length cells.new ≡ length cells.old }
 {
     match place {
-        Place::Due => Ok(Taken::Stopped(due_condition(token))),
-        Place::At(e, i, begins) => take_value(alloc, cells, token, e, i, begins),
+        GroupPlace::Due => Ok(Taken::Stopped(due_condition(token))),
+        GroupPlace::At(e, i, begins) => take_value(alloc, cells, token, e, i, begins),
     }
 }

@@ -1,4 +1,4 @@
-// Names, subscripts and repeat counts in namelist input.
+// Names, subscripts and repeat counts in namelist input (ISO/IEC 1539-1:2004, 10.10.1).
 ghost use Rattle.std.specs.Prelude.{◌≡◌, ◌-◌, ◌≤◌, length, take, MatchOption, IfSome, Some, None, slice_get};
 ghost use Rattle.fj_namelist.specs.Names.{same_name, closed_number, subscript_in, designator, ends_at_equals, ranged, repeat_in, behind_star};
 

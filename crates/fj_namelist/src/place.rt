@@ -1,4 +1,4 @@
-// Where the values of a group go.
+// Where the values of a group go (ISO/IEC 1539-1:2004, 10.10.1).
 use fj_value::{Condition, Kind};
 
 /// Elements of a member: its first cell and its number of cells.
@@ -11,7 +11,7 @@ pub struct Elements {
 
 /// What is due.
 #[derive(Clone, Copy)]
-pub enum Place {
+pub enum GroupPlace {
     /// An assignment, or the slash.
     Due,
     /// A value for an element, counted from 0; whether a separator makes a null value.
@@ -28,14 +28,14 @@ pub enum Filled {
 
 #[derive(Clone, Copy)]
 pub enum Taken {
-    On(Place),
+    On(GroupPlace),
     Stopped(Condition),
 }
 
 /// The beginning of an assignment: its elements, if there are such, and how many tokens it takes behind its first one.
 #[derive(Clone, Copy)]
 pub struct Begun {
-    pub place: Option<Place>,
+    pub place: Option<GroupPlace>,
     pub more: usize,
 }
 

@@ -6,7 +6,7 @@ ghost use Rattle.fj_value.specs.declared.value.Cell.{Cell};
 ghost use Rattle.fj_list.specs.ListInput.{condition_of};
 ghost use Rattle.fj_moved.specs.Cells.{places_of};
 ghost use Rattle.fj_list.specs.Scan.{IsOutcome};
-ghost use Rattle.fj_namelist.specs.declared.place.Place.{Place};
+ghost use Rattle.fj_namelist.specs.declared.place.GroupPlace.{GroupPlace};
 ghost use Rattle.fj_namelist.specs.GroupText.{IsWithin};
 ghost use Rattle.fj_namelist.specs.Tokens.{at_records_end, lines_lexed};
 ghost use Rattle.fj_namelist.specs.Names.{designator, subscript_in, with_subscript};
@@ -14,10 +14,10 @@ ghost use Rattle.fj_namelist.specs.GroupInput.{Result, ended, name_of, is_equals
 ghost use Rattle.fj_namelist.specs.Walker.{takes, IsPlace, IsTaken, MayBegin};
 
 use crate::heading::{Found, find_heading};
-use crate::lexing::{is_done, lex_line};
+use crate::lexer::{is_done, lex_line};
 use crate::member::{place_of, take_token};
 use crate::names::{designator, subscript_in};
-use crate::place::{Begun, Next, Place, Taken};
+use crate::place::{Begun, GroupPlace, Next, Taken};
 use crate::token::{State, Token, Tokens};
 use fj_list::{Records, next_line};
 use fj_moved::{Cells, GroupMember, Moved};
@@ -86,11 +86,11 @@ fn take_next(
     cells: &mut Cells,
     begun: Option<Begun>,
     token: &Token,
-    place: Place,
+    place: GroupPlace,
 ) -> Result<Next, AllocError>
     requires place { IsPlace (length cells.old) place }
     requires begun { MayBegin (length cells.old) begun }
-    ensures taken { IfOk result (λ to. (next : Place → ℕ → List Cell → Result) →
+    ensures taken { IfOk result (λ to. (next : GroupPlace → ℕ → List Cell → Result) →
         either_taken begun token.now place cells.old next
         ≡ takes to.taken cells.new (λ place' cells'. next place' to.more cells')) }
     ensures there { IfOk result (λ to. IsTaken (length cells.new) to.taken) }
@@ -124,7 +124,7 @@ fn take_at(
     cells: &mut Cells,
     tokens: &[Token],
     i: usize,
-    place: Place,
+    place: GroupPlace,
 ) -> Result<Next, AllocError>
     requires there { i < length tokens.now }
     requires within { All (IsWithin (length cells.old)) members.now }
@@ -151,10 +151,10 @@ fn take_tokens(
 ) -> Result<Condition, AllocError>
     requires { All (IsWithin (length cells.old)) members.now }
     ensures taken { IfOk result (λ condition.
-        tokens_taken members.now Place.Due 0 tokens.now cells.old ≡ ended cells.new condition) }
+        tokens_taken members.now GroupPlace.Due 0 tokens.now cells.old ≡ ended cells.new condition) }
     ensures places { places_of cells.new ≡ places_of cells.old }
 {
-    let mut place = Place::Due;
+    let mut place = GroupPlace::Due;
     let mut skip: usize = 0;
     for i in 0..tokens.len() {
         if skip > 0 {
@@ -220,8 +220,11 @@ fn read_tokens<R: Records>(
     }
 }
 
-/// Reads a group from the next record on (ISO/IEC 1539-1:2004, 10.10.1). `next` is called for no record behind that of
-/// the slash. After a `Stop` nothing is said of the values.
+/// Reads a group from the next record on (ISO/IEC 1539-1:2004, 10.10.1). The condition is `Fine`; `NO_GROUP` (22) where the first
+/// text is not the group's name; `NOT_IN_GROUP` (23) for a name, a subscript or a value beyond the elements that the group does not
+/// have; `BAD_GROUP_TEXT` (24) for other text where a name has to come; `NO_VALUE` (13) or `OUT_OF_RANGE` (14) for a constant that
+/// is none for its element; or the one in which the records end before a slash, mostly `EndOfFile`. `next` is called for no record
+/// after that of the slash. After a `Stop` nothing is said of the values.
 pub fn read_group<R: Records>(
     alloc: Global,
     records: &mut R,

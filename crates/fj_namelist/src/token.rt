@@ -1,4 +1,4 @@
-// What namelist input is made of.
+// What namelist input is made of (ISO/IEC 1539-1:2004, 10.10.1).
 use fj_value::{Condition, Items, Text};
 
 /// A token of namelist input. Blanks, record ends and comments part tokens.

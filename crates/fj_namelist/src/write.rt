@@ -157,8 +157,8 @@ fn group_text(
     Ok(out)
 }
 
-/// The records of a group, each followed by a line feed (ISO/IEC 1539-1:2004, 10.10.2): the group's name, each member
-/// with its values, and a slash.
+/// The records of a group, each with a line feed after it (ISO/IEC 1539-1:2004, 10.10.2): the group's name, each member with its
+/// values, and a slash. Nothing but want of memory can come.
 pub fn write_group(
     alloc: Global,
     group: &[u8],

@@ -10,7 +10,9 @@ use fj_statement::Statement;
 use fj_syntax::Written;
 use std::alloc::Global;
 
-/// What a statement means. A format is looked at first, then the meaning, then the limits. Declarations mean nothing
+/// What a statement means (ISO/IEC 1539-1:2004, 7.4.1 and 9.4 to 9.9). A format is looked at first, then the meaning, then the
+/// limits: `Format` comes where a literal is no format, `NoMeaning` for a name that is not declared, a subscript out of bounds, a
+/// literal or a kind that does not fit and specifiers that do not go together, `TooMany` past a limit. Declarations mean nothing
 /// here.
 #[tactic(auto, unfolding(crate::specs::Meaning::meaning, crate::specs::Meaning::is_within_limits))]
 pub fn statement(alloc: Global, names: &Names, written: Written) -> Result<Statement, Fault>

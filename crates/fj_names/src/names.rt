@@ -98,7 +98,7 @@ impl Names {
         self.index.get(name).copied()
     }
 
-    /// The variable of a name.
+    /// The variable of a name, which is in upper case; `None` where it is none's.
     #[tactic(auto, unfolding(crate::specs::Scope::found))]
     pub fn find(&self, name: &[u8]) -> Option<Found>
         ensures { result ≡ found self.now name.now }
@@ -116,7 +116,7 @@ impl Names {
         }
     }
 
-    /// The members of the group of a name.
+    /// The members of the group of a name, in order; `None` where it is no group's.
     #[tactic(auto, unfolding(crate::specs::Scope::members))]
     pub fn members(&self, name: &[u8]) -> Option<&Vars>
         ensures { option_copied result ≡ members self.now name.now }
@@ -189,7 +189,8 @@ impl Names {
             && self.characters <= MOST_CHARACTERS
     }
 
-    /// Adds a line of a type declaration. After a refusal the names are of no account.
+    /// Adds a line of a type declaration (ISO/IEC 1539-1:2004, 5.1). `NoMeaning` comes where a name is declared already, `TooMany`
+    /// past 4,096 variables, 1,000,000 places or 16,777,216 bytes of characters. After a refusal the names are of no account.
     pub fn declare(&mut self, line: u32, declaration: Declaration) -> Result<(), Fault>
         ensures { Declares (with_declaration self.old line declaration) result self.new }
     {
@@ -246,7 +247,8 @@ impl Names {
         })
     }
 
-    /// Adds a line of NAMELIST. After a refusal the names are of no account.
+    /// Adds a line of NAMELIST (ISO/IEC 1539-1:2004, 5.4). `NoMeaning` comes where the group's name is declared already, or a
+    /// member is no variable. After a refusal the names are of no account.
     pub fn group(&mut self, line: u32, group: Group) -> Result<(), Fault>
         ensures { Groups (with_group self.old line group) result self.new }
     {

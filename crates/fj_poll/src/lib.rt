@@ -1,9 +1,9 @@
 //! Runs in which INQUIRE with PENDING= is answered by what the workers have done.
 #![tactic(auto)]
 
-mod carrying;
-mod executing;
+mod execution;
 mod poll;
+mod stretches;
 mod usage;
 
 pub use fj_job::{Reason, Status, run_job};

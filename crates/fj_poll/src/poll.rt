@@ -4,7 +4,7 @@ ghost use Rattle.std.specs.FinSet as set;
 ghost use Rattle.fj_report.specs.Words.{polled_by};
 ghost use Rattle.fj_poll.specs.Answers.{HasPolled};
 
-use crate::executing::execute_polled;
+use crate::execution::execute_polled;
 use crate::usage::refuse_words;
 use fj_job::{Asked, Status, Task, answer};
 use fj_outside::{Disk, Sink, Source};

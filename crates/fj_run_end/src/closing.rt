@@ -18,7 +18,7 @@ ghost use Rattle.fj_run_end.specs.Closing.{AreAsDue, names_left, AreSeated, AreN
 ghost use Rattle.fj_run_end.specs.Fitting.{CountsStop, HasItsOwn, HaveTheirOwn};
 ghost use Rattle.fj_run_end.specs.declared.remains.Remains.{Remains as Remaining};
 
-use crate::losing::{after, stop_by};
+use crate::loss::{after, stop_by};
 use crate::remains::Remains;
 use fj_connect::Connection;
 use fj_outside::{Disk, Failed, FileStore, Stop};

@@ -3,14 +3,14 @@
 #![tactic(auto)]
 
 mod closing;
-mod finishing;
+mod completion;
+mod jobs;
 mod laws;
-mod losing;
+mod loss;
 mod remains;
-mod serving;
 
 pub use closing::give_back;
-pub use finishing::finish;
+pub use completion::finish;
 pub use laws::{
     ended_decks_hold_units, stops_hold_units, stops_spare_names, submits_hold_units,
     turns_hold_units,

@@ -7,7 +7,7 @@ ghost use Rattle.fj_meaning_jobs.specs.Desks.{Desk};
 ghost use Rattle.fj_meaning_turns.specs.Executing.{HoldsDesks};
 ghost use Rattle.fj_run_end.specs.Remains.{IsWhatRemains, AreOfDesks};
 
-use crate::serving::served;
+use crate::jobs::served;
 use fj_bay::Bay;
 use fj_connect::Connection;
 use fj_outside::{FileStore, Stop};

@@ -37,7 +37,7 @@ use Rattle.fj_meaning.specs.State.{Output, elements}
 use Rattle.fj_meaning.specs.Transfers.{member_of, members_of, layout_of, moved_in, printed_to}
 use Rattle.fj_run_items.specs.Gathering.{IsGathered, IsNumbered, all_items, members_in, count_of}
 use Rattle.fj_run_items.specs.Shown.{IsOfItems}
-use Rattle.fj_run_items.specs.declared.gathering.Gathered.{Gathered}
+use Rattle.fj_run_items.specs.declared.collection.Gathered.{Gathered}
 use Rattle.fj_run_items.specs.declared.lost.Lost.{Lost}
 use Rattle.fj_run_items.proofs.Cells.{IsCounted, items_counted, HasRun, runs_of}
 use Rattle.fj_run_items.proofs.Fits.{items_few}

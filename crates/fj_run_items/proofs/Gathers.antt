@@ -26,7 +26,7 @@ use Rattle.fj_meaning.specs.Needs.{group_places}
 use Rattle.fj_meaning.specs.Transfers.{moved_in}
 use Rattle.fj_run_items.specs.Gathering.{IsPiece, ArePieces, IsGathered, all_items, members_in}
 use Rattle.fj_run_items.specs.Kinds.{kinds_of}
-use Rattle.fj_run_items.specs.declared.gathering.Gathered.{Gathered}
+use Rattle.fj_run_items.specs.declared.collection.Gathered.{Gathered}
 use Rattle.fj_meaning.proofs.Stored.{kind_is}
 use Rattle.fj_run_items.proofs.Values.{read_is}
 

@@ -39,7 +39,7 @@ use Rattle.fj_meaning.specs.Statement.{control_by, control_in}
 use Rattle.fj_meaning.specs.Transfers.{layout_of, moved_in}
 use Rattle.fj_run_items.specs.Gathering.{ArePieces, IsGathered, IsNumbered, all_items}
 use Rattle.fj_run_items.specs.Kinds.{kinds_of}
-use Rattle.fj_run_items.specs.declared.gathering.Gathered.{Gathered}
+use Rattle.fj_run_items.specs.declared.collection.Gathered.{Gathered}
 use Rattle.fj_run_items.proofs.Finds.{run_numbered}
 use Rattle.fj_run_items.proofs.Gathers.{alone_is, cell_same, cells_are, run_cells_are, run_sizes}
 use Rattle.fj_meaning.proofs.Stored.{shown}

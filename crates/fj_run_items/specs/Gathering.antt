@@ -14,7 +14,7 @@ use Rattle.fj_statement.specs.declared.statement.Control.{Control}
 use Rattle.fj_statement.specs.declared.statement.Control.TheVariants as control
 use Rattle.fj_statement.specs.declared.statement.Transfer.{Transfer}
 use Rattle.fj_meaning.specs.Items.{operand_places}
-use Rattle.fj_run_items.specs.declared.gathering.Gathered.{Gathered}
+use Rattle.fj_run_items.specs.declared.collection.Gathered.{Gathered}
 
 -- a piece of an item: a literal by itself, or its places
 abbrev pub IsPiece : List Variable → Operand → Piece → Type 0

@@ -13,12 +13,12 @@ ghost use Rattle.fj_run_items.specs.Inside.{IsPlain, read_by, written_by};
 ghost use Rattle.fj_run_items.specs.Kinds.{kinds_of};
 ghost use Rattle.fj_run_items.specs.Shown.{IsOfItems};
 
+use crate::collection::whole;
 use crate::element::{read_element, write_element};
-use crate::gathering::whole;
-use crate::giving::{give_back, give_cells};
+use crate::job::moving;
 use crate::lost::Lost;
+use crate::results::{give_back, give_cells};
 use crate::star::is_of_items;
-use crate::taking::moving;
 use fj_internal::{read_internal, write_internal};
 use fj_moved::Cells;
 use fj_statement::{InternalFile, Transfer, Variables};

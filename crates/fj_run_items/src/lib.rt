@@ -1,28 +1,28 @@
 //! What a statement moves between variables and transfers, the output on unit `*`, and assignment.
 #![tactic(auto)]
 
-mod assigning;
-mod copying;
+mod assignment;
+mod collection;
+mod copies;
 mod element;
-mod gathering;
-mod giving;
 mod internal;
-mod laying;
+mod job;
+mod layout;
 mod lost;
 mod number;
-mod refusing;
+mod refusals;
+mod results;
 mod sink;
 mod star;
-mod taking;
-mod undefining;
+mod undefined;
 
-pub use assigning::assign;
-pub use giving::{give_back, give_cells};
+pub use assignment::assign;
 pub use internal::transfer_inside;
+pub use job::moving;
 pub use lost::Lost;
 pub use number::{number_given, set_number};
-pub use refusing::refusal;
+pub use refusals::refusal;
+pub use results::{give_back, give_cells};
 pub use sink::put_all;
 pub use star::{Output, write_star};
-pub use taking::moving;
-pub use undefining::undefine;
+pub use undefined::undefine;

@@ -11,11 +11,11 @@ ghost use Rattle.fj_run_items.specs.Handing.{open_record, ended_part, printed_on
 ghost use Rattle.fj_run_items.specs.Kinds.{kinds_of};
 ghost use Rattle.fj_run_items.specs.Shown.{IsOfItems, IsShownBy, shown_cells};
 
-use crate::copying::copied;
-use crate::gathering::only_run;
-use crate::laying::{is_grouped, layout_for, layout_of_items};
+use crate::collection::only_run;
+use crate::copies::copied;
+use crate::layout::{is_grouped, layout_for, layout_of_items};
 use crate::lost::Lost;
-use crate::refusing::is_formatted;
+use crate::refusals::is_formatted;
 use crate::sink::put_all;
 use fj_line::Unwritten;
 use fj_modes::usual_edit;

@@ -12,8 +12,8 @@ mod needs;
 mod pendings;
 mod pick;
 mod places;
+mod removal;
 mod runs;
-mod taking;
 mod tell;
 mod whose;
 

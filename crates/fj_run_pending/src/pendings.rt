@@ -26,7 +26,7 @@ use crate::held::{Held, Told};
 use crate::lost::Lost;
 use crate::mark::Mark;
 use crate::pick::{Pick, causes, has_id, picked, place_of};
-use crate::taking::{leave, take_picked};
+use crate::removal::{leave, take_picked};
 use crate::tell::Tell;
 use crate::whose::Whose;
 use fj_book::{Book, Needs, Pending, Places};

@@ -15,7 +15,7 @@ ghost use Rattle.fj_run_script.specs.Asking.{inquired_of};
 ghost use Rattle.fj_run_script.specs.Looking.{HasLooked, question_in};
 ghost use Rattle.fj_run_script.specs.Machine.{rest_of, run_at};
 
-use crate::handing::{put_back, put_in};
+use crate::handover::{put_back, put_in};
 use crate::looking::{Inquired, Look, asks_whether, look_for};
 use crate::machine::Machine;
 use crate::stage::Stage;

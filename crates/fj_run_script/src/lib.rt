@@ -1,26 +1,26 @@
 //! The runner of a deck: what it holds between two asks, statement by statement, and a script over slots of bays.
 #![tactic(auto)]
 
-mod answering;
-mod asking;
+mod answer;
+mod ask;
 mod beginning;
 mod ending;
 mod halted;
 mod hand;
-mod handing;
+mod handover;
 mod inquiry;
 mod left;
 mod looking;
 mod machine;
-mod making;
+mod progress;
 mod script;
-mod serving;
+mod service;
 mod stage;
+mod start;
 mod state;
 mod stretch;
 mod tally;
 mod turned;
-mod turning;
 mod turns;
 
 pub use ending::Ending;

@@ -25,7 +25,7 @@ ghost use Rattle.fj_run_statements.specs.Having.{HaveNext, name_brought};
 
 use crate::closing::{close, close_all, close_anyway};
 use crate::doing::{Doing, Then};
-use crate::inquiring::{answer_none_pending, inquire};
+use crate::inquiry::{answer_none_pending, inquire};
 use crate::opening::open;
 use crate::state::Core;
 use crate::transfers::{read_or_write, refuse};

@@ -7,7 +7,7 @@ mod brought;
 mod closing;
 mod doing;
 mod file_names;
-mod inquiring;
+mod inquiry;
 mod lost;
 mod numbers;
 mod opening;

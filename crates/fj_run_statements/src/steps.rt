@@ -32,7 +32,7 @@ ghost use Rattle.fj_run_statements.specs.Having.{HaveNext, HaveThen, IsFreeNext}
 use crate::brought::{condition_in, told_by};
 use crate::closing::close_all;
 use crate::doing::{After, Doing, Given, Then};
-use crate::inquiring::answer_look;
+use crate::inquiry::answer_look;
 use crate::opening::connect;
 use crate::state::Core;
 use crate::transfers::{carry, enter};

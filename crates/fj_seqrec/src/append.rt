@@ -6,8 +6,9 @@ ghost use Rattle.fj_span.specs.Change.{with_piece, KeepsUpToChange};
 use fj_outside::{FileStore, Stop};
 use fj_span::write_span;
 
-/// Puts records, with their line feeds, at a place that is at most the length, and answers the place behind them.
-/// Where `shorten` holds, they are the last of the file: the bytes behind them are cut.
+/// Puts formatted records (ISO/IEC 1539-1:2004, 9.1.1), with their line feeds, at a place that is at most the length, and answers
+/// the place after them. Places are counted in bytes from 0. Where `shorten` holds, they are the last of the file: the bytes after
+/// them are cut.
 pub fn append_records<F: FileStore>(
     file: &mut F,
     at: u64,

@@ -1,4 +1,4 @@
-//! Formatted records in files: bytes as a list of lines.
+//! Formatted records in files: bytes as a list of lines (ISO/IEC 1539-1:2004, 9.1.1).
 #![tactic(auto)]
 
 mod append;

@@ -23,8 +23,8 @@ pub enum RecordRead {
     TooLong,
 }
 
-/// Reads the formatted record that begins at a place, which is at most the file's length. `into` gets its characters,
-/// and after a `Stop` is of no account.
+/// Reads the formatted record that begins at a place (ISO/IEC 1539-1:2004, 9.1.1), counted in bytes from 0, which is at most the
+/// file's length. `limit` counts characters. `into` gets its characters, and after a `Stop` is of no account.
 pub fn read_record<F: FileStore>(
     file: &mut F,
     at: u64,

@@ -29,7 +29,7 @@ properties =
     ∷ (codes "DECIMAL", Decimal) ∷ (codes "SIGN", Sign) ∷ (codes "ASYNCHRONOUS", Asynchronous) ∷ (codes "SIZE", Size) ∷ (codes "POS", Pos) ∷ (codes "EXIST", Exist)
     ∷ (codes "OPENED", Opened) ∷ (codes "NUMBER", Number) ∷ (codes "NAMED", Named) ∷ (codes "NAME", Name) ∷ (codes "NEXTREC", Nextrec) ∷ (codes "PENDING", Pending) ∷ []
 
--- the words before an equals sign (9.4.5, 9.5.1, 9.6.2, 9.9.1), and NEWUNIT= (ISO/IEC 1539-1:2010, 9.5.6.12)
+-- the words before an equals sign (9.4.5, 9.4.6, 9.5.1, 9.6.1, 9.9.1), and NEWUNIT= (ISO/IEC 1539-1:2010, 9.5.6.12)
 abbrev pub specifiers : Table Specifier
 specifiers =
     (codes "UNIT", Unit) ∷ (codes "FILE", File) ∷ (codes "FMT", Fmt) ∷ (codes "NML", Nml) ∷ (codes "IOSTAT", Iostat) ∷ (codes "ID", Id) ∷ (codes "STATUS", Status)

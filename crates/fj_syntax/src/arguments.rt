@@ -1,4 +1,4 @@
-// The arguments of an input/output statement: which stand there, each at most once.
+// The arguments of an input/output statement: which stand there, each at most once (ISO/IEC 1539-1:2004, 9.4 to 9.9).
 ghost use Rattle.std.specs.Prelude.{◌≡◌, ◌<◌, length, IfSome};
 ghost use Rattle.std.specs.Option.{option_copied};
 ghost use Rattle.fj_syntax.specs.declared.words.Specifier.TheVariants as specifier;

@@ -1,4 +1,4 @@
-// The input/output statements from their tokens.
+// The input/output statements from their tokens (ISO/IEC 1539-1:2004, 9.4 to 9.9).
 ghost use Rattle.std.specs.Prelude.{◌≡◌, ◌++◌, [], ◌∷◌, Bool, true, false, List};
 ghost use Rattle.fj_syntax.specs.Calls.{on_unit, open_of, close_of, wait_of, move_of, asking, asked_of, subject_of, inquire_of, transfer_of};
 ghost use Rattle.std.specs.Option.{option_to_list};

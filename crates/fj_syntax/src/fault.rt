@@ -5,6 +5,7 @@ ghost use Rattle.fj_syntax.specs.declared.fault.SyntaxFault.TheVariants.{NotASta
 
 use std::alloc::AllocError;
 
+/// Why a line says nothing.
 #[derive(Drop)]
 pub enum SyntaxFault {
     Memory(AllocError),

@@ -1,4 +1,4 @@
-// A character literal of a line.
+// A character literal of a line (ISO/IEC 1539-1:2004, 4.4.4).
 ghost use Rattle.std.specs.Prelude.{◌≡◌, ℕ, ◌≤◌, ◌<◌, ◌==◌, ◌++◌, IfOk, IfSome, IfNone, position, length};
 ghost use Rattle.fj_syntax.specs.Undoubled.{undoubled, behind_one};
 

@@ -1,4 +1,4 @@
-// A line as tokens.
+// A line as tokens (ISO/IEC 1539-1:2004, 3.2).
 ghost use Rattle.std.specs.Prelude.{◌≡◌, ◌≤◌, ◌==◌, ◌||◌, Bool, length, take, map, IfOk, OnOk, Ok, slice_index, option_map, drop, ◌++◌, ◌∷◌, []};
 ghost use Rattle.fj_syntax.specs.Class.{is_of};
 ghost use Rattle.fj_syntax.specs.Tokens.{behind_blanks, ends_line, IsDelimiter, Scanned};

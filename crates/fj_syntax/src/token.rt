@@ -1,4 +1,4 @@
-// The tokens of a line.
+// The tokens of a line (ISO/IEC 1539-1:2004, 3.2).
 
 use crate::literal::Literal;
 use crate::word::Word;

@@ -1,4 +1,4 @@
-// A name or keyword of a line.
+// A name or keyword of a line (ISO/IEC 1539-1:2004, 3.2.1).
 ghost use Rattle.std.specs.Prelude.{◌≡◌, map, IfOk};
 ghost use Rattle.std.specs.Char.{to_ascii_uppercase};
 ghost use Rattle.std.specs.Str.{bytes_eq};

@@ -4,20 +4,21 @@ use crate::operand::{Designator, Operand};
 use fj_modes::{FileName, Motion, OpenSpec, Question};
 use fj_value::{Boxed, Delim, Items, Kind, Text};
 
-/// A type declaration. The attribute ASYNCHRONOUS has no effect.
+/// A type declaration (ISO/IEC 1539-1:2004, 5.1). The attribute ASYNCHRONOUS has no effect.
 #[derive(Drop)]
 pub struct Declaration {
     pub kind: Kind,
     pub entities: Items<Designator>,
 }
 
-/// NAMELIST.
+/// NAMELIST (ISO/IEC 1539-1:2004, 5.4).
 #[derive(Drop)]
 pub struct Group {
     pub name: Text,
     pub members: Items<Text>,
 }
 
+/// An assignment (ISO/IEC 1539-1:2004, 7.4.1).
 #[derive(Drop)]
 pub struct Assignment {
     pub to: Designator,
@@ -36,7 +37,7 @@ pub enum Unit {
     New(Designator),
 }
 
-/// A statement on a unit, and what it says beside the unit and IOSTAT=.
+/// A statement on a unit (ISO/IEC 1539-1:2004, 9.4 to 9.8), and what it says beside the unit and IOSTAT=.
 #[derive(Drop)]
 pub struct OnUnit<T> {
     pub unit: Unit,
@@ -58,7 +59,7 @@ pub struct Asking {
     pub place: Designator,
 }
 
-/// INQUIRE.
+/// INQUIRE (ISO/IEC 1539-1:2004, 9.9).
 #[derive(Drop)]
 pub struct Inquire {
     pub about: Subject,
@@ -78,7 +79,7 @@ pub enum Format {
     Literal(Text),
 }
 
-/// READ or WRITE.
+/// READ or WRITE (ISO/IEC 1539-1:2004, 9.5).
 #[derive(Drop)]
 pub struct Transfer {
     /// READ.

@@ -1,4 +1,4 @@
-// The records of a connection one after another, as list-directed and namelist input reads them, and where that comes to.
+// The records of a connection one after another, as list-directed and namelist input reads them, and where that comes to (ISO/IEC 1539-1:2004, 10.9.1 and 10.10.1).
 ghost use Rattle.std.specs.Prelude.{◌≡◌, ◌≤◌, ◌↔◌, length, All, IfOk};
 ghost use Rattle.fj_outside.specs.Faults.{Rose};
 ghost use Rattle.fj_list.specs.ListInput.{list_input};

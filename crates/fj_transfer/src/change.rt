@@ -19,7 +19,7 @@ pub struct EditChange {
 }
 
 impl EditChange {
-    /// The modes during the transfer.
+    /// The modes during the transfer (ISO/IEC 1539-1:2004, 9.5.1): those that it names, and the others as they are.
     pub fn change(&self, modes: EditModes) -> EditModes
         ensures { result ≡ changed self.now modes }
     {

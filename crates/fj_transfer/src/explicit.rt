@@ -165,7 +165,7 @@ fn leave_behind<F: FileStore>(connection: &mut Connection<F>, reader: &Reader) -
     go_behind(connection, next)
 }
 
-/// What a transfer comes to.
+/// What a transfer comes to (ISO/IEC 1539-1:2004, 9.5.1.14 and 9.10).
 #[derive(Clone, Copy, Debug, PartialEq, Eq)]
 pub struct Performed {
     /// What SIZE= gets: how many characters data edit descriptors took. There is none after an error and at the end of

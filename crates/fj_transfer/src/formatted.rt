@@ -140,8 +140,9 @@ fn ends_record(layout: &Layout, advance: bool) -> bool
     }
 }
 
-/// Writes the records of an output by its layout, the last of the file: at the position, where an open record goes on, or
-/// from a byte of a stream on. A condition is an error and leaves the connection.
+/// Writes the records of an output by its layout (ISO/IEC 1539-1:2004, 9.5.3.4.2), the last of the file: at the position, where an
+/// open record goes on, or from byte `place` of a stream on, counted from 0. An error is one of `print_records`, or `FILE_TOO_LONG`
+/// (25) where the file would pass its limit, and leaves the connection.
 pub fn write_lines<F: FileStore>(
     alloc: Global,
     connection: &mut Connection<F>,

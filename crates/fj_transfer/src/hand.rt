@@ -1,4 +1,4 @@
-// The record at hand of an input, and where the next one is found.
+// The record at hand of an input, and where the next one is found (ISO/IEC 1539-1:2004, 9.2.3).
 ghost use Rattle.std.specs.Prelude.{◌≡◌, ◌+◌, ◌<◌, ◌≤◌, ◌^◌, ◌↔◌, [], true, false, IfOk, List, ℕ};
 ghost use Rattle.fj_outside.specs.Faults.{Rose};
 ghost use Rattle.fj_modes.specs.Words.{same_access};

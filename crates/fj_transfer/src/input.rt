@@ -74,9 +74,14 @@ fn read_from<F: FileStore>(
     finish(connection, &reader, &mut moved.cells, condition)
 }
 
-/// Reads the items of an input under an explicit format, from the record at hand on or from a byte of a stream on, and
-/// answers the condition and what SIZE= gets. An open record that output left is ended first. An error leaves the
-/// connection, and it and the end of the file leave the items undefined. After a `Stop` nothing is said of the values.
+/// Reads the items of an input under an explicit format (ISO/IEC 1539-1:2004, 9.5.3.4.2 and 10.1), from the record at hand on or
+/// from byte `place` of a stream on, counted from 0, and answers the condition and what SIZE= gets. An open record that output left
+/// is ended first.
+///
+/// Errors leave the connection and make the items undefined: `NO_DESCRIPTOR` (11), `WRONG_DESCRIPTOR` (12), `NO_VALUE` (13),
+/// `OUT_OF_RANGE` (14), `RECORD_TOO_LONG` (15), `STRING_READ` (29) and `SHORT_RECORD` (30). `EndOfFile` makes the items undefined,
+/// and the connection is after the endfile record. `EndOfRecord`, in nonadvancing input alone, leaves the values that were read.
+/// After a `Stop` nothing is said of the values.
 pub fn read_lines<F: FileStore>(
     alloc: Global,
     connection: &mut Connection<F>,

@@ -79,10 +79,11 @@ fn leave<F: FileStore>(
     refuse(connection, cells, reached.condition)
 }
 
-/// Reads the items of a list-directed input, from the position on or from a byte of a stream on, and answers the condition.
-/// The first record is the rest of the one at hand, if there is one; an open record that output left is ended first. The
-/// connection is then behind the last record that was looked at. An error leaves it, and it and the end of the file leave
-/// the items undefined. After a `Stop` nothing is said of the values.
+/// Reads the items of a list-directed input (ISO/IEC 1539-1:2004, 9.5.3.5 and 10.9.1), from the position on or from byte `place` of
+/// a stream on, counted from 0, and answers the condition: one of `fj_list::read_list`, where the records end with `EndOfFile`, or
+/// with `RECORD_TOO_LONG` (15) before one that is too long. The first record is the rest of the one at hand, if there is one; an
+/// open record that output left is ended first. The connection is then after the last record that was looked at. An error leaves
+/// it, and it and the end of the file make the items undefined. After a `Stop` nothing is said of the values.
 pub fn read_listed<F: FileStore>(
     alloc: Global,
     connection: &mut Connection<F>,
@@ -114,8 +115,9 @@ pub fn read_listed<F: FileStore>(
     leave(connection, reached, &mut moved.cells)
 }
 
-/// Reads a namelist group, from the position on or from a byte of a stream on, and answers the condition. The records, the
-/// connection and the errors are as in list-directed input. After a `Stop` nothing is said of the values.
+/// Reads a namelist group (ISO/IEC 1539-1:2004, 9.5.3.6 and 10.10.1), from the position on or from byte `place` of a stream on, and
+/// answers the condition: one of `fj_namelist::read_group`. The records, how they end, the connection and what errors leave are as
+/// in list-directed input. After a `Stop` nothing is said of the values.
 pub fn read_grouped<F: FileStore>(
     alloc: Global,
     connection: &mut Connection<F>,

@@ -1,4 +1,4 @@
-// A look at the next record of a connection, for list-directed and namelist input.
+// A look at the next record of a connection, for list-directed and namelist input (ISO/IEC 1539-1:2004, 10.9.1 and 10.10.1).
 ghost use Rattle.std.specs.Prelude.{◌≡◌, ◌+◌, ◌-◌, ◌<◌, ◌≤◌, ◌↔◌, None, unwrap_or, IfOk};
 ghost use Rattle.fj_outside.specs.Faults.{Rose};
 ghost use Rattle.fj_connect.specs.Linked.{connection_of};

@@ -111,9 +111,10 @@ fn read_hand<F: FileStore>(
     Ok(leave_numbered(connection, number, &reader, &mut moved.cells, condition))
 }
 
-/// Reads the items of an input under an explicit format from the record of a number on, and answers the condition and what
-/// SIZE= gets. An error leaves the connection, and the items undefined: 17 where there is no such record, or none for a
-/// slash. After a `Stop` nothing is said of the values.
+/// Reads the items of an input under an explicit format from the record of a number on, counted from 1 (ISO/IEC 1539-1:2004,
+/// 9.2.2.2 and 10.1), and answers the condition and what SIZE= gets. An error leaves the connection and makes the items undefined:
+/// one of `read_lines` but `RECORD_TOO_LONG`, or `NO_SUCH_RECORD` (17) where there is no such record, or none for a slash. After a
+/// `Stop` nothing is said of the values.
 pub fn read_numbered<F: FileStore>(
     alloc: Global,
     connection: &mut Connection<F>,

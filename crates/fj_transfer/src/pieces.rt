@@ -135,8 +135,9 @@ fn put_pieces<F: FileStore>(
     Ok(Condition::Fine)
 }
 
-/// Writes the records of an output under an explicit format, from the record of a number on, each filled up with blanks. A
-/// condition is an error and leaves the connection.
+/// Writes the records of an output under an explicit format, from the record of a number on, counted from 1, each filled up with
+/// blanks (ISO/IEC 1539-1:2004, 9.2.2.2 and 10.1). An error is one of `print_records`, or `FILE_TOO_LONG` (25), and leaves the
+/// connection.
 pub fn write_numbered<F: FileStore>(
     alloc: Global,
     connection: &mut Connection<F>,

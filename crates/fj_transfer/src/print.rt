@@ -67,7 +67,8 @@ fn finished(
     }
 }
 
-/// The output of items under an explicit format behind so many characters of an open record, as `print_records` writes it.
+/// The output of items under an explicit format after so many characters of an open record, as `print_records` writes it, with its
+/// conditions.
 pub fn print_explicit(
     format: &Format,
     advance: bool,
@@ -152,11 +153,12 @@ fn print_group(
     finished(written, end, out)
 }
 
-/// The formatted output of one statement behind so many characters of an open record: its records, each with a line feed
-/// behind it (ISO/IEC 1539-1:2004, 9.5.3, 10.1 and 10.9.2). Under an explicit format and ADVANCE='NO' the last one stays
-/// open. A condition leaves the output as it was: 11 where the part of the format that is used again has no data descriptor
-/// for the items that are left, 12 where a descriptor is not for its item, 15 where a text takes a record past `recl`, 26
-/// where the records pass 16,777,216 bytes. Of several the first from the left to the right counts, and 15 before 26.
+/// The formatted output of one statement after `begun` characters of an open record: its records, each with a line feed after it
+/// (ISO/IEC 1539-1:2004, 9.5.3.4.2, 10.1, 10.9.2 and 10.10.2). Under an explicit format and ADVANCE='NO' the last one stays open. A
+/// condition leaves the output as it was: `NO_DESCRIPTOR` (11) where the part of the format that is used again has no data edit
+/// descriptor for the items that are left, `WRONG_DESCRIPTOR` (12) where a descriptor is not for its item, `RECORD_TOO_LONG` (15)
+/// where a text takes a record past `recl` characters, `OUTPUT_TOO_LONG` (26) where the records pass 16,777,216 bytes. Of several
+/// the first from the left to the right counts, and 15 before 26.
 pub fn print_records(
     _alloc: Global,
     job: &Transfer,
@@ -283,8 +285,8 @@ fn counted(
     }
 }
 
-/// The output by a layout behind so many characters of an open record, as `print_records` writes it. Answers how many
-/// characters the record has that stays open, those before the statement among them.
+/// The output by a layout after so many characters of an open record, as `print_records` writes it, with its conditions. Answers
+/// how many characters the record has that stays open, those before the statement among them.
 pub fn print_onto(
     layout: &Layout,
     advance: bool,

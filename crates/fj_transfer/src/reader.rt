@@ -1,4 +1,4 @@
-// Format control carried out on the items of an input.
+// Format control carried out on the items of an input (ISO/IEC 1539-1:2004, 10.3).
 ghost use Rattle.std.specs.Prelude.{◌≡◌, ◌≢◌, ◌+◌, ◌<◌, ◌≤◌, ◌^◌, ◌∷◌, ◌↔◌, List, ℕ, length, IfOk, Ok, Some, None};
 ghost use Rattle.fj_outside.specs.Faults.{Rose};
 ghost use Rattle.fj_value.specs.declared.value.Cell.{Cell};

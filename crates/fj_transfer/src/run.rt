@@ -1,4 +1,4 @@
-// Fields under a data edit descriptor that comes several times.
+// Fields under a data edit descriptor that comes several times (ISO/IEC 1539-1:2004, 10.3).
 ghost use Rattle.std.specs.Prelude.{◌≡◌, ◌+◌, ◌-◌, ◌*◌, ◌^◌, ◌<◌, ◌≤◌, ◌++◌, List, length, take, replicate, IfSome, IfOk, OnOk, None};
 ghost use Rattle.fj_value.specs.declared.edit.Edit.TheVariants as edits;
 ghost use Rattle.fj_format.specs.Unfolding as elementary;

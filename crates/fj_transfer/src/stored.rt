@@ -1,4 +1,4 @@
-// The values of items as the bytes of unformatted records (ISO/IEC 1539-1:2004, 9.5.4.4.1).
+// The values of items as the bytes of unformatted records (ISO/IEC 1539-1:2004, 9.5.3.4.1).
 ghost use Rattle.std.specs.List.{flat_map};
 ghost use Rattle.std.specs.Prelude.{◌≡◌, ◌<◌, ◌≤◌, ◌++◌, [], ◌∷◌, length, take, nat_le, if◌then◌else◌, Some, None, OnOk, IfOk, All};
 ghost use Rattle.fj_unfrec.specs.Frames.{framed};
@@ -89,7 +89,7 @@ fn put_load(moved: &Load, out: &mut Text) -> Result<(), AllocError>
     }
 }
 
-/// The bytes of an output's values, which are the body of its record.
+/// The bytes of an output's values, which are the body of its record (ISO/IEC 1539-1:2004, 9.5.3.4.1).
 pub fn body_of(alloc: Global, moved: &Load) -> Result<Text, AllocError>
     requires { IsOrdered moved.now }
     ensures { IfOk result (λ body. body ≡ body_of moved.now) }
@@ -99,7 +99,7 @@ pub fn body_of(alloc: Global, moved: &Load) -> Result<Text, AllocError>
     Ok(body)
 }
 
-/// The same as a whole record of sequential access, with its length before and behind it.
+/// The same as a whole record of sequential access, with its length in four bytes before and after it.
 pub fn frame_of(alloc: Global, moved: &Load) -> Result<Text, AllocError>
     requires { IsOrdered moved.now }
     ensures { IfOk result (λ frame. frame ≡ framed (body_of moved.now)) }

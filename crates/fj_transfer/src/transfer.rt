@@ -26,7 +26,7 @@ pub enum Layout {
     Group(Text, Members),
 }
 
-/// A READ or WRITE without its unit and its items.
+/// A READ or WRITE without its unit and its items (ISO/IEC 1539-1:2004, 9.5.1).
 #[derive(Drop)]
 pub struct TransferSpec {
     /// READ.

@@ -1,4 +1,4 @@
-// Unformatted transfers (ISO/IEC 1539-1:2004, 9.5.4.4.1): a record of sequential access, a direct record, bytes of a stream.
+// Unformatted transfers (ISO/IEC 1539-1:2004, 9.5.3.4.1): a record of sequential access, a direct record, bytes of a stream.
 ghost use Rattle.std.specs.Prelude.{◌≡◌, ◌+◌, ◌<◌, ◌≤◌, ◌^◌, ◌↔◌, length, if◌then◌else◌, IsTrue, IfOk, OnErr, List, ℕ};
 ghost use Rattle.fj_value.specs.declared.value.Cell.{Cell};
 ghost use Rattle.fj_outside.specs.Faults.{Rose};
@@ -19,9 +19,9 @@ use fj_unfrec::FrameRead;
 use fj_value::{Condition, Text};
 use std::alloc::{AllocError, Global};
 
-/// Writes a frame, which is a record of sequential access with its lengths, as the last of the file, by one write. An error
-/// leaves the connection: 15 where the body is longer than a record may be, and 25 where the frame would take the file past
-/// its limit.
+/// Writes a frame, which is a record of sequential access with its lengths (ISO/IEC 1539-1:2004, 9.5.3.4.1), as the last of the
+/// file, by one write. An error leaves the connection: `RECORD_TOO_LONG` (15) where the body is longer than a record may be, and
+/// `FILE_TOO_LONG` (25) where the frame would take the file past its limit.
 pub fn write_sequential<F: FileStore>(
     connection: &mut Connection<F>,
     frame: &[u8],
@@ -51,9 +51,9 @@ pub fn write_sequential<F: FileStore>(
     Ok(Condition::Fine)
 }
 
-/// Writes the direct record of a number, filled up with zeros, by one write behind the gap where there is one. An error
-/// leaves the connection: 15 where the bytes are more than a record has, and 25 where the record would end behind the limit
-/// of the file.
+/// Writes the direct record of a number, counted from 1, filled up with zeros (ISO/IEC 1539-1:2004, 9.2.2.2), by one write after
+/// the gap where there is one. An error leaves the connection: `RECORD_TOO_LONG` (15) where the bytes are more than a record has,
+/// and `FILE_TOO_LONG` (25) where the record would end past the limit of the file.
 pub fn write_direct<F: FileStore>(
     connection: &mut Connection<F>,
     number: u64,
@@ -89,8 +89,8 @@ pub fn write_direct<F: FileStore>(
     Ok(Condition::Fine)
 }
 
-/// Writes bytes of a stream from a place on, over those that stand there. Error 25, where they would take the file past
-/// its limit, leaves the connection.
+/// Writes bytes of a stream from a place on, counted from 0, over those that stand there (ISO/IEC 1539-1:2004, 9.2.2.3).
+/// `FILE_TOO_LONG` (25), where they would take the file past its limit, leaves the connection.
 pub fn write_stream<F: FileStore>(
     connection: &mut Connection<F>,
     place: u64,
@@ -143,9 +143,10 @@ fn take_body(alloc: Global, moved: &mut Moved, body: &[u8]) -> Result<bool, Allo
     Ok(true)
 }
 
-/// Reads the record of sequential access at the position. An error leaves the connection: 18 where there is no whole
-/// frame, 15 where it is longer than a record may be, 19 where the items need more than it has. The end of the file
-/// leaves the connection behind the endfile record. The items are undefined then.
+/// Reads the record of sequential access at the position (ISO/IEC 1539-1:2004, 9.5.3.4.1). An error leaves the connection:
+/// `BROKEN_RECORD` (18) where there is no whole frame, `RECORD_TOO_LONG` (15) where it is longer than a record may be,
+/// `RECORD_ENDS` (19) where the items need more than it has. `EndOfFile` leaves the connection after the endfile record. The items
+/// are undefined then.
 pub fn read_sequential<F: FileStore>(
     alloc: Global,
     connection: &mut Connection<F>,
@@ -186,8 +187,8 @@ pub fn read_sequential<F: FileStore>(
     Ok(condition)
 }
 
-/// Reads the direct record of a number. An error leaves the connection, and the items undefined: 17 where there is none,
-/// 19 where the items need more than a record has.
+/// Reads the direct record of a number, counted from 1 (ISO/IEC 1539-1:2004, 9.2.2.2). An error leaves the connection and makes the
+/// items undefined: `NO_SUCH_RECORD` (17) where there is none, `RECORD_ENDS` (19) where the items need more than a record has.
 pub fn read_direct<F: FileStore>(
     alloc: Global,
     connection: &mut Connection<F>,
@@ -223,8 +224,8 @@ pub fn read_direct<F: FileStore>(
     Ok(Condition::Fine)
 }
 
-/// Reads bytes of a stream from a place on. Where fewer are left than the items need, that is the end of the file: the
-/// connection stays, and the items are undefined.
+/// Reads bytes of a stream from a place on, counted from 0 (ISO/IEC 1539-1:2004, 9.2.2.3). Where fewer are left than the items
+/// need, that is `EndOfFile`: the connection stays, and the items are undefined.
 pub fn read_stream<F: FileStore>(
     alloc: Global,
     connection: &mut Connection<F>,

@@ -1,4 +1,4 @@
-// Format control carried out on the items of an output.
+// Format control carried out on the items of an output (ISO/IEC 1539-1:2004, 10.3).
 ghost use Rattle.std.specs.Prelude.{◌≡◌, ◌≢◌, [], ◌∷◌, List, length, OnOk, Ok};
 ghost use Rattle.fj_format.specs.Unfolding as elementary;
 ghost use Rattle.fj_line.specs.Page.{at_hand, IsIn, IsAtEnd, Keeps, Carries};

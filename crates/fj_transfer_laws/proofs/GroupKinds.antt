@@ -26,8 +26,8 @@ use Rattle.fj_namelist.specs.declared.token.Token.TheVariants as token
 use Rattle.fj_namelist.specs.declared.token.State.TheVariants.{Between}
 use Rattle.fj_namelist.specs.declared.place.Elements.{Elements}
 use Rattle.fj_namelist.specs.declared.place.Begun.{Begun}
-use Rattle.fj_namelist.specs.declared.place.Place.{Place}
-use Rattle.fj_namelist.specs.declared.place.Place.TheVariants as place
+use Rattle.fj_namelist.specs.declared.place.GroupPlace.{GroupPlace}
+use Rattle.fj_namelist.specs.declared.place.GroupPlace.TheVariants as place
 use Rattle.fj_namelist.specs.Names.{same_name, member_of, repeat_in, behind_star}
 use Rattle.fj_namelist.specs.Tokens.{lines_lexed}
 use Rattle.fj_namelist.specs.Heading.{Heading, named, misnamed, missing, heading}
@@ -59,11 +59,11 @@ module _ (old : List Cell) where
   abbrev AreOfOneKind : Elements → Type 0
   AreOfOneKind e = (i : ℕ) (cell : Cell) → i < e.count → slice_get old (e.first + i) ≡ Some cell → cell.kind ≡ e.kind
 
-  abbrev IsGood : Place → Type 0
+  abbrev IsGood : GroupPlace → Type 0
   IsGood place.Due = Unit {0}
   IsGood (place.At e i begins) = AreOfOneKind e
 
-  abbrev MayBeGood : Option Place → Type 0
+  abbrev MayBeGood : Option GroupPlace → Type 0
   MayBeGood None = Unit {0}
   MayBeGood (Some p) = IsGood p
 
@@ -107,17 +107,17 @@ module _ (old : List Cell) where
 
   -- ---- tokens
 
-  abbrev KeepsFrom : (Place → List Cell → Result) → Type 0
-  KeepsFrom next = (p : Place) → IsGood p → Keeps (next p)
+  abbrev KeepsFrom : (GroupPlace → List Cell → Result) → Type 0
+  KeepsFrom next = (p : GroupPlace) → IsGood p → Keeps (next p)
 
-  separated_keeps : (e : Elements) (i : ℕ) (begins : Bool) (next : Place → List Cell → Result) → AreOfOneKind e → KeepsFrom next → Keeps (λ cells. separated e i begins cells next)
+  separated_keeps : (e : Elements) (i : ℕ) (begins : Bool) (next : GroupPlace → List Cell → Result) → AreOfOneKind e → KeepsFrom next → Keeps (λ cells. separated e i begins cells next)
   separated_keeps e i false next of on cells h = on (place.At e i true) of cells h
   separated_keeps e i true next of on cells h = go (ltb i e.count) where
     go : (b : Bool) → Kept (cond b (next (place.At e (i + 1) true) cells) (record { cells = cells; condition = Error 23 }))
     go true = on (place.At e (i + 1) true) of cells h
     go false = h
 
-  value_keeps : (t : Token) (e : Elements) (i : ℕ) (begins : Bool) (next : Place → List Cell → Result) → AreOfOneKind e → KeepsFrom next → Keeps (λ cells. value_taken t e i begins cells next)
+  value_keeps : (t : Token) (e : Elements) (i : ℕ) (begins : Bool) (next : GroupPlace → List Cell → Result) → AreOfOneKind e → KeepsFrom next → Keeps (λ cells. value_taken t e i begins cells next)
   value_keeps token.Separator e i begins next of on cells h = separated_keeps e i begins next of on cells h
   value_keeps (token.Word w) e i begins next of on cells h = word_keeps (repeat_in w) (behind_star w) w e i (λ i' cells'. next (place.At e i' false) cells') of (λ i'. on (place.At e i' false) of) cells h
   value_keeps (token.Constant n cs) e i begins next of on cells h = filled_keeps e Delimited cs n i (λ i' cells'. next (place.At e i' false) cells') of (λ i'. on (place.At e i' false) of) cells h
@@ -127,15 +127,15 @@ module _ (old : List Cell) where
   value_keeps (token.End condition) e i begins next of on cells h = h
   value_keeps token.Slash e i begins next of on cells h = h
 
-  taken_keeps : (t : Token) (p : Place) (next : Place → List Cell → Result) → IsGood p → KeepsFrom next → Keeps (λ cells. taken t p cells next)
+  taken_keeps : (t : Token) (p : GroupPlace) (next : GroupPlace → List Cell → Result) → IsGood p → KeepsFrom next → Keeps (λ cells. taken t p cells next)
   taken_keeps t place.Due next good on cells h = h
   taken_keeps t (place.At e i begins) next good on cells h = value_keeps t e i begins next good on cells h
 
-  begun_keeps : (b : Begun) (o : Option Place) (next : Place → ℕ → List Cell → Result) → MayBeGood o → ((more : ℕ) → KeepsFrom (λ p cells. next p more cells)) → Keeps (λ cells. begun b cells o next)
+  begun_keeps : (b : Begun) (o : Option GroupPlace) (next : GroupPlace → ℕ → List Cell → Result) → MayBeGood o → ((more : ℕ) → KeepsFrom (λ p cells. next p more cells)) → Keeps (λ cells. begun b cells o next)
   begun_keeps b None next good on cells h = h
   begun_keeps b (Some p) next good on cells h = on b.more p good cells h
 
-  either_keeps : (o : Option Begun) (t : Token) (p : Place) (next : Place → ℕ → List Cell → Result) → BeginsGood o → IsGood p → ((more : ℕ) → KeepsFrom (λ p' cells. next p' more cells)) → Keeps (λ cells. either_taken o t p cells next)
+  either_keeps : (o : Option Begun) (t : Token) (p : GroupPlace) (next : GroupPlace → ℕ → List Cell → Result) → BeginsGood o → IsGood p → ((more : ℕ) → KeepsFrom (λ p' cells. next p' more cells)) → Keeps (λ cells. either_taken o t p cells next)
   either_keeps (Some b) t p next begins good on cells h = begun_keeps b b.place next begins on cells h
   either_keeps None t p next begins good on cells h = taken_keeps t p (λ p' cells'. next p' 0 cells') good (on 0) cells h
 
@@ -175,7 +175,7 @@ module _ (old : List Cell) where
   begun_good members None h = tt
   begun_good members (Some name) h = place_good (member_of members name.designator.name) name.designator.subscript (found_good name.designator.name members h)
 
-  tokens_keep : (members : List GroupMember) (skip : ℕ) (ts : List Token) (p : Place) → All (HasItsKind old) members → IsGood p → Keeps (λ cells. tokens_taken members p skip ts cells)
+  tokens_keep : (members : List GroupMember) (skip : ℕ) (ts : List Token) (p : GroupPlace) → All (HasItsKind old) members → IsGood p → Keeps (λ cells. tokens_taken members p skip ts cells)
   tokens_keep members skip [] p are good cells h = h
   tokens_keep members (suc skip) (t ∷ ts) p are good cells h = tokens_keep members skip ts p are good cells h
   tokens_keep members zero (t ∷ ts) p are good cells h =

@@ -10,8 +10,9 @@ use fj_span::{GATHERED, put, write_span};
 /// The bytes of a frame that is written at once.
 const FRAME: usize = GATHERED + 8;
 
-/// Puts a frame at a place that is at most the length, as the last of the file: the bytes behind it are cut. Answers the
-/// place behind it.
+/// Puts an unformatted record (ISO/IEC 1539-1:2004, 9.1.2) as a frame, its length in four bytes before and after it, at a place
+/// that is at most the length, as the last of the file: the bytes after it are cut. Places are counted in bytes from 0. Answers the
+/// place after it.
 pub fn append_frame<F: FileStore>(file: &mut F, at: u64, body: &[u8]) -> Result<u64, Stop>
     requires place { at ≤ F.size file.old }
     requires body { length body.now ≤ 16777216 }

@@ -6,8 +6,8 @@ ghost use Rattle.fj_unfrec.specs.Reading.{frame_start};
 use crate::length::read_length;
 use fj_outside::{Failed, FileStore};
 
-/// Answers where the frame begins that ends at a place, which is at most the file's length, and 0 at the start of the
-/// file (ISO/IEC 1539-1:2004, 9.7.1). `None` is told where no whole frame ends there.
+/// Answers where the frame begins that ends at a place, which is at most the file's length, and 0 at the start of the file (ISO/IEC
+/// 1539-1:2004, 9.7.1). `None` where no whole frame ends there.
 pub fn backspace_frame<F: FileStore>(file: &mut F, at: u64) -> Result<Option<u64>, Failed>
     requires { at ≤ F.size file.old }
     ensures telling { F.tells file.old ↔ F.tells file.new }

@@ -1,4 +1,4 @@
-//! Unformatted records in files: bytes as a list of frames, and values as bytes.
+//! Unformatted records in files: bytes as a list of frames, and values as bytes (ISO/IEC 1539-1:2004, 9.1.2).
 #![tactic(auto)]
 
 mod append;

@@ -21,8 +21,8 @@ pub enum FrameRead {
     TooLong,
 }
 
-/// Reads the frame that begins at a place, which is at most the file's length. `into` gets its body, and after a `Stop`
-/// is of no account.
+/// Reads the frame that begins at a place (ISO/IEC 1539-1:2004, 9.1.2), counted in bytes from 0, which is at most the file's
+/// length. `limit` counts bytes. `into` gets its body, and after a `Stop` is of no account.
 pub fn read_frame<F: FileStore>(
     file: &mut F,
     at: u64,

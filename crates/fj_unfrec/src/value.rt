@@ -5,8 +5,9 @@ ghost use Rattle.fj_unfrec.specs.Stored.{stored, stored_width, value_of};
 use fj_value::{Kind, Text, Value};
 use std::alloc::{AllocError, Global};
 
-/// Adds the bytes of a value of a kind. A value of another type has none, nor has a number that does not fit INTEGER(4). Want of memory
-/// changes nothing.
+/// Adds the bytes of a value of a kind (ISO/IEC 1539-1:2004, 9.5.3.4.1): 4 or 8 of a number, the least first, 4 of a logical, the
+/// characters themselves. A value of another type has none, nor has a number that does not fit INTEGER(4). Want of memory changes
+/// nothing.
 pub fn put_value(kind: Kind, value: &Value, out: &mut Text) -> Result<(), AllocError>
     ensures ok { OnOk result (out.new ≡ out.old ++ stored kind value.now) }
     ensures err { OnErr result (out.new ≡ out.old) }
@@ -23,7 +24,8 @@ pub fn put_value(kind: Kind, value: &Value, out: &mut Text) -> Result<(), AllocE
     }
 }
 
-/// Makes the value of a kind that bytes are; there are as many as the kind takes. Want of memory changes nothing.
+/// Makes the value of a kind that bytes are (ISO/IEC 1539-1:2004, 9.5.3.4.1); there are as many as the kind takes. Want of memory
+/// changes nothing.
 pub fn get_value(alloc: Global, kind: Kind, bytes: &[u8], out: &mut Value) -> Result<(), AllocError>
     requires { length bytes.now ≡ stored_width kind }
     ensures ok { OnOk result (out.new ≡ value_of kind bytes.now) }

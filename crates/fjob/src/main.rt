@@ -2,7 +2,7 @@
 #![tactic(auto)]
 
 mod batch;
-mod carrying;
+mod commands;
 mod conditions;
 mod help;
 mod refused;
@@ -11,7 +11,7 @@ mod told;
 mod wrong;
 
 use crate::batch::{batch, is_batch};
-use crate::carrying::carry_out;
+use crate::commands::carry_out;
 use crate::told::{Seen, tell};
 use fj_exit::exit_status;
 use fj_poll::Status;

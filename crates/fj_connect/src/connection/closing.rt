@@ -10,8 +10,8 @@ use crate::connection::Connection;
 use fj_outside::{Disk, Failed, FileStore};
 
 impl<F: FileStore> Connection<F> {
-    /// Gives the file back, and removes it where it is not to be kept. It takes no memory. After `Failed` the file is
-    /// back and was not removed.
+    /// Gives the file back, and removes it where it is not to be kept (ISO/IEC 1539-1:2004, 9.4.6). No condition comes, and it
+    /// takes no memory. After `Failed` the file is back and was not removed.
     pub fn close_file<D: Disk<File = F>>(self, disk: &mut D, keep: bool) -> Result<(), Failed>
         requires { D.tells disk.old → IsInUse (D.held disk.old) self.name }
         ensures telling { D.tells disk.old ↔ D.tells disk.new }

@@ -15,8 +15,8 @@ impl<F: FileStore> Connection<F> {
     ghost use Rattle.fj_connect.specs.DirectRuns.{with_direct_run};
     ghost use Rattle.fj_connect.specs.Linked.{connection_of};
 
-    /// Reads the direct record of a number; false is told where there is none. The connection stays as it is. `into`
-    /// gets the record, and after a `Stop` is of no account.
+    /// Reads the direct record of a number, counted from 1 (ISO/IEC 1539-1:2004, 9.2.2.2); false where there is none. The
+    /// connection stays as it is. `into` gets the record, and after a `Stop` is of no account.
     pub fn read_direct(&mut self, number: u64, into: &mut Text) -> Result<bool, Stop>
         requires { 0 < number }
         ensures telling { F.tells self.old.file ↔ F.tells self.new.file }

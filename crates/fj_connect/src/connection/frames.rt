@@ -9,8 +9,8 @@ use fj_unfrec::{FrameRead, read_frame};
 use fj_value::Text;
 
 impl<F: FileStore> Connection<F> {
-    /// Reads the unformatted record at the position, which stays. `into` gets its bytes, and after a `Stop` is of no
-    /// account.
+    /// Reads the unformatted record at the position (ISO/IEC 1539-1:2004, 9.1.2), which stays. `into` gets its bytes, and after a
+    /// `Stop` is of no account.
     pub fn read_frame(&mut self, into: &mut Text) -> Result<FrameRead, Stop>
         ensures telling { F.tells self.old.file ↔ F.tells self.new.file }
         ensures same { F.tells self.old.file → F.bytes self.new.file ≡ F.bytes self.old.file }

@@ -162,8 +162,8 @@ impl<F: FileStore> Connection<F> {
         Ok(())
     }
 
-    /// Carries a motion out: 28, 10, 20 and 18 are told in this order, and nothing changes then. After a `Stop` nothing is
-    /// said of the position.
+    /// Carries a motion out (ISO/IEC 1539-1:2004, 9.7). `NO_SUCH_MOTION` (28), `FORBIDDEN_ACTION` (10), `AFTER_ENDFILE` (20) and
+    /// `BROKEN_RECORD` (18) are looked for in this order, and nothing changes then. After a `Stop` nothing is said of the position.
     pub fn move_to(&mut self, how: Positioning) -> Result<Condition, Stop>
         ensures telling { F.tells self.old.file ↔ F.tells self.new.file }
         ensures moved { F.tells self.old.file → IfOk result (λ condition.

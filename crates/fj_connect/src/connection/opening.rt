@@ -212,8 +212,9 @@ fn connected<F: FileStore>(
     }
 }
 
-/// Connects to the file of a name, which is free, as a statement and the modes that it settles ask for. Error 5, 6 or 27
-/// leaves what the disk holds; a stop leaves the file of that name at home, or absent where it was to be made.
+/// Connects to the file of a name, which is free, as a statement and the modes that it settles ask for (ISO/IEC 1539-1:2004,
+/// 9.4.5). `NO_SUCH_FILE` (5), `FILE_EXISTS` (6) or `OPENED_TOO_LONG` (27) leaves what the disk holds; a stop leaves the file of
+/// that name at home, or absent where it was to be made.
 pub fn open_file<D: Disk>(
     alloc: Global,
     disk: &mut D,

@@ -1,4 +1,4 @@
-// Other positions in the same file.
+// Other positions in the same file (ISO/IEC 1539-1:2004, 9.2.3).
 ghost use Rattle.std.specs.Prelude.{◌≡◌, ◌≢◌, ◌+◌, ◌<◌, ◌≤◌, ◌^◌, List, ℕ};
 ghost use Rattle.fj_connect.specs.Spot.{spot_between, spot_in_record, spot_past_end};
 

@@ -16,8 +16,8 @@ impl<F: FileStore> Connection<F> {
     ghost use Rattle.fj_connect.specs.Connection.{with_records, with_open_record};
     ghost use Rattle.fj_connect.specs.Linked.{connection_of};
 
-    /// Looks at the record that begins at a place in the file. Its characters are at hand from then on. The position
-    /// stays. After a `Stop` nothing is said of what is at hand.
+    /// Looks at the formatted record that begins at a place in the file (ISO/IEC 1539-1:2004, 9.1.1), counted in bytes from 0. Its
+    /// characters are at hand from then on. The position stays. After a `Stop` nothing is said of what is at hand.
     pub fn look_at_record(&mut self, at: u64) -> Result<RecordRead, Stop>
         requires { at ≤ F.size self.old.file }
         ensures telling { F.tells self.old.file ↔ F.tells self.new.file }

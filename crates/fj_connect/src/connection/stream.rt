@@ -15,8 +15,8 @@ impl<F: FileStore> Connection<F> {
     ghost use Rattle.fj_connect.specs.Connection.{with_bytes};
     ghost use Rattle.fj_connect.specs.Linked.{connection_of};
 
-    /// Reads so many bytes from a place in the file; false is told where fewer are left. The position stays. `into` gets
-    /// the bytes, and after a `Stop` is of no account.
+    /// Reads so many bytes from a place in the file (ISO/IEC 1539-1:2004, 9.2.2.3), counted from 0; false where fewer are left. The
+    /// position stays. `into` gets the bytes, and after a `Stop` is of no account.
     pub fn read_bytes(&mut self, at: u64, want: u32, into: &mut Text) -> Result<bool, Stop>
         requires { at ≤ F.size self.old.file }
         ensures telling { F.tells self.old.file ↔ F.tells self.new.file }
@@ -35,7 +35,8 @@ impl<F: FileStore> Connection<F> {
         read_stream(&mut self.file, at, want, into)
     }
 
-    /// Puts bytes at the position, over those that stand there. After a `Stop` nothing is said of the position.
+    /// Puts bytes at the position, over those that stand there (ISO/IEC 1539-1:2004, 9.2.2.3). After a `Stop` nothing is said of
+    /// the position.
     pub fn put_bytes(&mut self, piece: &[u8]) -> Result<(), Stop>
         requires { self.old.spot.at + length piece.now ≤ longest_file }
         ensures telling { F.tells self.old.file ↔ F.tells self.new.file }

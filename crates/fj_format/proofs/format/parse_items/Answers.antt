@@ -1,5 +1,5 @@
 use Rattle.std.proofs.Common.{◌≡◌, ◌+◌, true, false, [], subst, refl, sym, ap, ◌∙◌, arith}
-use Rattle.fj_format.specs.declared.place.Place.TheVariants.{Begin, Done}
+use Rattle.fj_format.specs.declared.place.FormatPlace.TheVariants.{Begin, Done}
 use Rattle.fj_format.specs.declared.scanner.Scanner.{Scanner}
 use Rattle.fj_format.proofs.Scanned.{Stands, stands_first}
 use Rattle.fj_format.proofs.Parsed.{refused, taken, done_items, short}

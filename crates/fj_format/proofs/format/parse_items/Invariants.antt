@@ -1,5 +1,5 @@
 use Rattle.std.proofs.Common.{◌≢◌, take}
-use Rattle.fj_format.specs.declared.place.Place.TheVariants.{Done}
+use Rattle.fj_format.specs.declared.place.FormatPlace.TheVariants.{Done}
 use Rattle.fj_format.proofs.Scanned.{Stands}
 use Rattle.fj_format.proofs.format.parse_items.Given as goal
 

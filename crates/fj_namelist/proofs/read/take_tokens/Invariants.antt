@@ -1,7 +1,7 @@
 use Rattle.std.proofs.Common.{◌≡◌, drop, length}
 use Rattle.fj_moved.specs.Cells.{places_of}
 use Rattle.fj_namelist.specs.GroupInput.{tokens_taken}
-use Rattle.fj_namelist.specs.declared.place.Place.TheVariants as place
+use Rattle.fj_namelist.specs.declared.place.GroupPlace.TheVariants as place
 use Rattle.fj_namelist.specs.Walker.{IsPlace}
 use Rattle.fj_namelist.proofs.read.take_tokens.Given as goal
 
