@@ -23,19 +23,6 @@ fn kind_at(cells: &Cells, at: u32) -> Kind
     cells.as_slice()[at as usize].kind
 }
 
-/// Gives a value to a cell (ISO/IEC 1539-1:2004, 16.5.5).
-pub fn define(cells: &mut Cells, at: usize, value: Value)
-    requires { at < length cells.old }
-    ensures value { cells.new ≡ with_value cells.old at value }
-    ensures places { places_of cells.new ≡ places_of cells.old }
-    ensures count { length cells.new ≡ length cells.old }
-{
-    let cell = &cells.as_slice()[at];
-    let place = cell.place;
-    let kind = cell.kind;
-    cells.replace(at, Cell { place, kind, value });
-}
-
 /// Serves the constant at hand to an item, or answers the condition where its characters are no value of the item's
 /// kind.
 pub fn serve(
