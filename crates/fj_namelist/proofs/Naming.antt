@@ -2,7 +2,7 @@
 use Rattle.std.proofs.Common.{◌≡◌, ℕ, ◌+◌, ◌-◌, ◌<◌, ◌≤◌, Bool, true, false, ◌||◌, cond, eqb, ltb, List, [], ◌∷◌, Some, None, sym, ap, subst, ◌∙◌, refl, inl, inr, arith}
 use Rattle.std.proofs.lemmas.Bool.Decides.{nat_tests}
 use Rattle.std.proofs.lemmas.Option.{none-some}
-use Rattle.fj_list.specs.declared.moved.GroupMember.{GroupMember}
+use Rattle.fj_moved.specs.declared.moved.GroupMember.{GroupMember}
 use Rattle.fj_namelist.specs.declared.place.GroupPlace.TheVariants as place
 use Rattle.fj_namelist.specs.Names.{same_name, member_of}
 use Rattle.fj_namelist.specs.GroupInput.{elements, element_of}

@@ -1,6 +1,6 @@
 -- What the names of assignments name (ISO/IEC 1539-1:2004, 10.10.1.1).
 use Rattle.std.specs.Prelude.{◌≡◌, ℕ, ◌+◌, ◌<◌, ◌≤◌, true, false, List, ◌∷◌, Option, Some, None}
-use Rattle.fj_list.specs.declared.moved.GroupMember.{GroupMember}
+use Rattle.fj_moved.specs.declared.moved.GroupMember.{GroupMember}
 use Rattle.fj_namelist.specs.declared.place.GroupPlace.{GroupPlace}
 use Rattle.fj_namelist.specs.declared.place.GroupPlace.TheVariants as place
 use Rattle.fj_namelist.specs.Names.{same_name, member_of}

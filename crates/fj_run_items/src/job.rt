@@ -24,7 +24,7 @@ use crate::lost::Lost;
 use crate::number::number_given;
 use crate::star::edit_of;
 use crate::undefined::undefine_size;
-use fj_list::{Load, Moved};
+use fj_moved::{Load, Moved};
 use fj_statement::{Transfer, Variables};
 use fj_store::{Piece, Run, Store};
 use fj_transfer::{Transfer as Moving, TransferSpec};

@@ -11,7 +11,7 @@ ghost use Rattle.fj_store.specs.Variables.{is_at};
 ghost use Rattle.fj_transfer.specs.Moving as moving;
 
 use crate::assignment::elements;
-use fj_list::{GroupMember, Load, Shape};
+use fj_moved::{GroupMember, Load, Shape};
 use fj_statement::{Control, Variable, Variables};
 use fj_store::position;
 use fj_transfer::{Layout, Members};
