@@ -1,0 +1,5 @@
+mod Steps
+mod Rows
+mod OneFile
+mod Kept
+mod Modes

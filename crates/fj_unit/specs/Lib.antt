@@ -1,0 +1,4 @@
+pub mod Unit
+pub mod Held
+pub mod Statements
+pub mod Program
