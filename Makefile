@@ -1,11 +1,13 @@
 PREFIX ?= /usr/local
 
-.PHONY: help try build install example examples pre-push test bench checks
+.PHONY: help try build lib install install-lib check-lib example examples pre-push test bench checks
 
 help:
 	@echo 'make try        run the first example from the sources, within three minutes; nothing is proved by it'
 	@echo 'make build      prove every crate below the program that is new or changed, and leave it as ./fjob'
+	@echo 'make lib        the library for Fortran, C and Python, left in lib/out (docs/LINK.md); make check-lib tries it'
 	@echo 'make install    put ./fjob, and nothing else, into PREFIX/bin ($(PREFIX)/bin)'
+	@echo 'make install-lib  put the library into PREFIX/lib and PREFIX/include'
 	@echo 'make example    run the deck of examples/first in a folder of its own'
 	@echo 'make examples   run every example, alone and with 0, 1, 4 and 16 workers, and compare'
 	@echo 'make pre-push   build, examples, worked decks, and the pages against the program and the crates'
@@ -21,8 +23,17 @@ build:
 	cp crates/fjob/out/fjob fjob.new
 	mv -f fjob.new fjob
 
+lib:
+	tools/build_lib
+
 install: build
 	install -D fjob $(DESTDIR)$(PREFIX)/bin/fjob
+
+install-lib: lib
+	DESTDIR='$(DESTDIR)' tools/build_lib install '$(PREFIX)'
+
+check-lib: lib
+	checks/link/run
 
 example: build
 	examples/run first
