@@ -1,9 +1,10 @@
 """The benchmarks: for each a deck, the Fortran program that does the same, and what both have to print and leave.
 
 Numbers are written or read by one statement of ALL of them, or by MANY statements of one, in each layout and each access. What both need
-around that (variables, their values, their report) is taken off: of a deck by a second one without the statements that are measured, or,
-for MANY statements, by the time in which `fjob check` reads it, since the compiler has read the program; of a program by a run with a word
-behind it, at which it ends before them.
+around that (variables, their values, their report) is taken off. Of a deck it is what a second one takes, without the statements that are
+measured, or, for MANY statements, the time in which `fjob check` reads it, since the compiler has read the program. Of a program it is what
+a run takes that is given a word: it ends before the statements. A statement that takes a millisecond alone is carried out AGAIN times, and a
+time is that of one.
 """
 import array
 import dataclasses
@@ -11,6 +12,7 @@ import functools
 
 ALL = 1_000_000
 MANY = 50_000
+AGAIN = 16
 RUNS = 15
 ALONE = [["alone"]]
 WORKERS = [["alone"], *(["run", "--workers", number] for number in ("1", "2", "4"))]
@@ -19,7 +21,8 @@ WORKERS = [["alone"], *(["run", "--workers", number] for number in ("1", "2", "4
 @dataclasses.dataclass
 class Benchmark:
     """A deck with its program. A file is due by its bytes, or by the list of its numbers where layouts differ; what is printed likewise, by
-    numbers and the text behind them. The program of gfortran runs with the environment that is given, beside what stands there."""
+    numbers and the text after them. The program of gfortran runs with the environment that is given, beside what stands there. What is
+    measured is carried out so many `times`."""
     deck: str
     program: str
     printed: str
@@ -31,26 +34,30 @@ class Benchmark:
     numbers: list | None = None
     environment: dict = dataclasses.field(default_factory=dict)
     runs: int = RUNS
+    times: int = 1
     flags: tuple = ()
     measured: str = ""
 
 
 @dataclasses.dataclass(frozen=True)
 class Kind:
-    """A layout with an access: what OPEN says, what a statement of all numbers says, and one of one number."""
+    """A layout with an access: what OPEN says, what a statement of all numbers says, and one of one number; how often the former is
+    carried out, and what stands between."""
     opened: str
     whole: str
     single: str
     listing: bool = False
+    times: int = 1
+    between: tuple = ()
 
 
 KINDS = {
     "formatted": Kind("", ",'(10I8)'", ",'(I8)'"),
     "list": Kind("", ",*", ",*", listing=True),
     "namelist": Kind("", ",NML=G", ",NML=G", listing=True),
-    "unformatted": Kind(",FORM='UNFORMATTED'", "", ""),
+    "unformatted": Kind(",FORM='UNFORMATTED'", "", "", times=AGAIN, between=("REWIND 10",)),
     "direct": Kind(",ACCESS='DIRECT',FORM='FORMATTED',RECL={recl}", ",'(10I8)',REC=1", ",'(I8)',REC={number}"),
-    "stream": Kind(",ACCESS='STREAM',FORM='UNFORMATTED'", "", ""),
+    "stream": Kind(",ACCESS='STREAM',FORM='UNFORMATTED'", ",POS=1", "", times=AGAIN),
 }
 
 
@@ -98,7 +105,7 @@ def statement(verb, control, item):
 
 
 def program_of(declared, before, measured, checked=()):
-    """A program that ends before what is measured where a word stands behind it."""
+    """A program that ends before what is measured where it is given a word."""
     return text(["program measured", *declared, *before, "if (command_argument_count() > 0) stop", *measured, *checked, "end program"])
 
 
@@ -118,7 +125,8 @@ def whole(name, reads):
     group = ["NAMELIST /G/ V"] if name == "namelist" else []
     numbers = list(range(ALL, 0, -1)) if reads else list(range(1, ALL + 1))
     how = "'in',STATUS='OLD',ACTION='READ'" if reads else "'out',STATUS='REPLACE'"
-    done = [f"OPEN(10,FILE={how}{kind.opened.format(recl=80)})", statement("READ" if reads else "WRITE", kind.whole, "V"), "CLOSE(10)"]
+    one = [statement("READ" if reads else "WRITE", kind.whole, "V"), *kind.between]
+    done = [f"OPEN(10,FILE={how}{kind.opened.format(recl=80)})", *one * kind.times, "CLOSE(10)"]
     declared = [f"INTEGER V({ALL})", *group]
     file = stored(name, numbers, whole=True)
     check = [f"do i = 1, {ALL}", f"if (v(i) /= {ALL} + 1 - i) stop 1", "end do"] if reads else []
@@ -129,10 +137,11 @@ def whole(name, reads):
         printed=elements(reads),
         inputs={"values": little(range(1, ALL + 1)), **({"in": file} if reads else {})},
         files={} if reads else {"out": numbers if kind.listing else file},
+        times=kind.times,
     )
 
 
-def single(name, reads):
+def single(name, reads, environment=None):
     """A statement for each of many numbers."""
     kind = KINDS[name]
     group = ["NAMELIST /G/ K"] if name == "namelist" else []
@@ -149,6 +158,7 @@ def single(name, reads):
         printed=f"= ended\nK = {numbers[-1]}\n",
         inputs={"in": file} if reads else {},
         files={} if reads else {"out": numbers if kind.listing else file},
+        environment=environment or {},
     )
 
 
@@ -218,7 +228,7 @@ ASYNC_WRITE = "WRITE(10,'(I8)',ASYNCHRONOUS='YES') K"
 
 
 def pending(count, group, words=None):
-    """Asynchronous statements of one number, with a WAIT behind so many of them each."""
+    """Asynchronous statements of one number, with a WAIT after so many of them each."""
     deck = ["INTEGER, ASYNCHRONOUS :: K", "K = 42", ASYNC_OPEN]
     for at in range(0, count, group):
         deck += [*[ASYNC_WRITE] * min(group, count - at), "WAIT(10)"]
@@ -267,6 +277,8 @@ for one in KINDS:
     for verb, way in (("write", False), ("read", True)):
         BENCHMARKS[f"{verb} {one} all"] = functools.partial(whole, one, way)
         BENCHMARKS[f"{verb} {one} many"] = functools.partial(single, one, way)
+for one in ("formatted", "unformatted"):
+    BENCHMARKS[f"write {one} many unbuffered"] = functools.partial(single, one, False, {"GFORTRAN_UNBUFFERED_ALL": "y"})
 BENCHMARKS["async many"] = functools.partial(pending, MANY, MANY)
 BENCHMARKS["async hundreds"] = functools.partial(pending, MANY, 100)
 BENCHMARKS["async turns"] = functools.partial(pending, MANY // 2, 1)
