@@ -1,14 +1,17 @@
 """Examples, carried out with a library that is loaded before the C library and refuses or fails one call.
 
 The library is a C file of this folder. It reads the number of the call from AT, and writes how many calls there were into the file COUNT,
-and behind that number, of a library that says so, what the chosen call was on.
+and after that number, of a library that says so, what the chosen call was on.
 """
+import concurrent.futures
 import os
 import pathlib
 import shutil
 import subprocess
 import sys
 import tempfile
+
+from progress import Progress
 
 TOP = pathlib.Path(__file__).resolve().parent.parent
 FJOB = TOP / "fjob"
@@ -76,17 +79,21 @@ def try_each(source, is_right, tried_on):
     if not FJOB.exists() or not shutil.which("gcc"):
         sys.exit(f"{sys.argv[0]}: it needs ./fjob (run 'make build' first) and gcc")
     tried = wrong = 0
-    with tempfile.TemporaryDirectory() as place:
+    tried_on = list(tried_on)
+    progress = Progress(len(tried_on), "examples")
+    with tempfile.TemporaryDirectory() as place, concurrent.futures.ThreadPoolExecutor(os.cpu_count()) as pool:
         library = f"{place}/loaded.so"
         subprocess.run(["gcc", "-shared", "-fPIC", "-o", library, TOP / "checks" / source, "-ldl"], check=True)
         for example in tried_on:
             whole = run(example.folder, example.deck, example.words, library)
-            answers = [whole] + [run(example.folder, example.deck, example.words, library, at) for at in range(1, whole.calls + 1)]
+            later = pool.map(lambda at, of=example: run(of.folder, of.deck, of.words, library, at), range(1, whole.calls + 1))
+            answers = [whole, *later]
             tried += whole.calls
             for at, answer in enumerate(answers):
                 if not answer.is_due(example) and not (at > 0 and is_right(example, answer)):
                     wrong += 1
                     print(f"{example.name} by {' '.join(example.words)}: call {at} of {whole.calls}, {answer.met}: "
                           f"status {answer.status}, printed {answer.printed!r}, left {answer.files!r}")
+            progress.step()
     print(f"{tried} calls, {wrong} answered otherwise than they have to be")
     return wrong > 0

@@ -14,7 +14,7 @@ def letters_of(parts):
 @dataclasses.dataclass
 class Record:
     """A record: its fields, or none where its characters are a processor's own; what list-directed input may read of it, each a kind with
-    its characters, and whether there is more of it, or a slash; the group that it and the records behind it are, with the places that get values; the bytes of one without a format."""
+    its characters, and whether there is more of it, or a slash; the group that it and the records after it are, with the places that get values; the bytes of one without a format."""
 
     pieces: list = None
     listed: list = None
@@ -53,7 +53,7 @@ class Records:
         self.at, self.writing, self.inside = len(self.records) - stays, stays, None
 
     def skip(self, short=False):
-        """Goes behind the record at hand."""
+        """Goes after the record at hand."""
         self.at, self.inside, self.short = self.at + 1, None, short
 
     def backspace(self):
@@ -76,7 +76,7 @@ class Records:
         self.ended = True
 
     def offset(self, at):
-        """How many bytes are in front of a record of known characters."""
+        """How many bytes are before a record of known characters."""
         return sum(record.width() + 1 for record in self.records[:at])
 
     def letters(self):
@@ -84,7 +84,7 @@ class Records:
 
 
 class Numbered:
-    """A file of direct access: records by number, and the number behind the last one that was touched."""
+    """A file of direct access: records by number, and the number after the last one that was touched."""
 
     def __init__(self, recl, records=None):
         self.recl, self.records, self.next = recl, dict(records or {}), 1

@@ -144,11 +144,11 @@ class Deck(Connections, Transfers, Reads, Unformatted, Inside):
         elif verb == "ENDFILE" and not is_stream and unit.access == "STREAM":
             return self.leave("ENDFILE of a formatted stream")
         elif verb == "ENDFILE" and not is_stream and (unit.file.ended or unit.file.inside is not None or unit.file.short):
-            return self.leave("ENDFILE behind the endfile record, in a record, behind the end of one or a list")
+            return self.leave("ENDFILE after the endfile record, in a record, after the end of one or a list")
         cuts = isinstance(unit.file, Records) and unit.file.at < len(unit.file.records)
         self.motion(unit, verb, due)
         if verb == "ENDFILE" and cuts and due == "fine":
-            self.leave("BACKSPACE behind an ENDFILE that cuts")
+            self.leave("BACKSPACE after an ENDFILE that cuts")
             self.motion(unit, "REWIND")
         if due != "fine" and verb == "ENDFILE" and unit.access != "DIRECT":
             self.motion(unit, "REWIND")
@@ -196,7 +196,7 @@ class Deck(Connections, Transfers, Reads, Unformatted, Inside):
         self.say(line.replace("UNIT=FILE=", "FILE="))
         self.counts.update((place, str(self.answer(unit, what))) for what, place in places.items() if what in ("NEXTREC", "POS", "SIZE"))
         if "NEXTREC" in places and unit.form == "FORMATTED":
-            self.leave("NEXTREC= behind a READ with a format, in gfortran")
+            self.leave("NEXTREC= after a READ with a format, in gfortran")
             self.own.add(places["NEXTREC"])
 
     def answer(self, unit, what):
@@ -277,7 +277,7 @@ class Deck(Connections, Transfers, Reads, Unformatted, Inside):
         self.lines += [("", f"close({number})") for number in sorted(self.units)]
 
     def declarations(self):
-        """The lines in front of the statements, of the deck and of Fortran."""
+        """The lines before the statements, of the deck and of Fortran."""
         arrays = [("INTEGER", "S"), ("INTEGER", "N"), ("INTEGER", "J"), ("INTEGER", "R"), ("INTEGER(8)", "M"), ("LOGICAL", "Y"), ("CHARACTER(12)", "Z")]
         rows = self.variables.declared + self.inside_declared() + [(kind, name, self.used[name]) for kind, name in arrays if name in self.used]
         lines = [f"{kind} {name}{f'({count})' if count else ''}" for kind, name, count in rows]

@@ -20,7 +20,7 @@ class Reads:
         """A READ of one or more records, or of a part of one."""
         file = unit.file
         if file.writing:
-            self.leave("READ behind nonadvancing output")
+            self.leave("READ after nonadvancing output")
             return self.motion(unit, "REWIND" if unit.access == "STREAM" or self.maybe(0.5) else "BACKSPACE")
         if file.at >= len(file.records):
             return self.read_at_end(unit)
@@ -64,7 +64,7 @@ class Reads:
         if not free:
             return
         if unit.access == "STREAM":
-            self.leave("the end of a formatted stream behind another transfer")
+            self.leave("the end of a formatted stream after another transfer")
             self.motion(unit, "REWIND")
             unit.file.at = len(unit.file.records)
             free = [place for place in free if place.kind != "L"] or free
@@ -143,7 +143,7 @@ class Reads:
         self.say_transfer("READ", unit, specs, quoted(f"({','.join(texts)})"), Items([place for place, _ in reads]), reads=reads)
 
     def read_beyond(self, width, texts, reads):
-        """A field behind the end of the record, for which blanks stand."""
+        """A field after the end of the record, for which blanks stand."""
         used = [place for place, _ in reads]
         free = [place for place in self.variables.free() if place not in used and place.kind != "L"]
         if free:
@@ -185,7 +185,7 @@ class Reads:
             self.counts[counted] = str(sum(int(field[1]) for field in fields if field))
             if None in fields:
                 self.own.add(counted)
-                self.leave("SIZE= behind moves, in gfortran")
+                self.leave("SIZE= after moves, in gfortran")
             specs.append(f"SIZE={counted}")
         self.say_transfer("READ", unit, specs, quoted(f"({','.join(texts)})"), Items([place for place, _ in reads]), due, reads)
         if due == "fine":

@@ -17,7 +17,7 @@ def value_text(rng, kind):
 
 
 def separator(rng, comma, kind):
-    """Blanks, or a comma or semicolon with blanks or without; gfortran takes none behind a truth value and a blank for it."""
+    """Blanks, or a comma or semicolon with blanks or without; gfortran takes none after a truth value and a blank for it."""
     mark = ";" if comma else ","
     return rng.choice([" ", "  ", mark, mark + " "] + ([f" {mark} "] if kind != "L" else []))
 

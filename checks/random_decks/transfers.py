@@ -117,7 +117,7 @@ class Transfers:
         return self.write_fields(unit)
 
     def place_of_write(self, unit):
-        """POS= at the start of a record, where the unit is a stream: at times, and always where something stands behind."""
+        """POS= at the start of a record, where the unit is a stream: at times, and always where something stands after."""
         file = unit.file
         if unit.access != "STREAM" or file.writing or file.at == len(file.records) and not self.maybe(0.25):
             return []
@@ -132,7 +132,7 @@ class Transfers:
         where = self.place_of_write(unit)
         at_end = unit.file.writing or unit.file.at == len(unit.file.records)
         if unit.access == "STREAM" or unit.file.short:
-            self.leave("moves in the format of a stream, or behind the end of a record or a list")
+            self.leave("moves in the format of a stream, or after the end of a record or a list")
         stays = self.maybe(0.2) and bool(items.parts) and (unit.access != "STREAM" or at_end)
         moves, plus = unit.access != "STREAM" and not unit.file.short, modes["SIGN"] == "PLUS"
         text, records = format_out(self.rng, items.parts, plus, moves, not stays) if items.parts else ("()", [[]])

@@ -75,7 +75,7 @@ class Unformatted:
         return None
 
     def write_formatted(self, unit):
-        """A WRITE of numbered records with a format, behind or over those that are there."""
+        """A WRITE of numbered records with a format, after or over those that are there."""
         file = unit.file
         items = self.output(3)
         text, records = format_out(self.rng, items.parts, unit.mode("SIGN") == "PLUS")
@@ -90,7 +90,7 @@ class Unformatted:
         return None
 
     def write_unformatted(self, unit):
-        """A WRITE of a numbered record without a format, also behind a gap."""
+        """A WRITE of a numbered record without a format, also after a gap."""
         file = unit.file
         items = self.output(4, plain=False)
         letters = letters_of(items.parts)

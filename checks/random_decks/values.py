@@ -135,7 +135,7 @@ def field_out(rng, part, plus):
 
 
 class Format:
-    """Descriptors one behind another, and the records that they leave."""
+    """Descriptors one after another, and the records that they leave."""
 
     def __init__(self, rng, moves):
         self.rng, self.moves, self.entries, self.records = rng, moves, [], [[]]
@@ -150,7 +150,7 @@ class Format:
             self.entries.append([1, text])
 
     def gap(self):
-        """Characters in front of a field: a string, or a move; no move stands behind a move."""
+        """Characters before a field: a string, or a move; no move stands after a move."""
         width = self.rng.randint(1, 4)
         column = sum(piece.width for piece in self.records[-1])
         string = self.rng.choice(STRINGS)
