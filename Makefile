@@ -4,7 +4,7 @@ PREFIX ?= /usr/local
 
 help:
 	@echo 'make try        run the first example from the sources, within three minutes; nothing is proved by it'
-	@echo 'make build      prove every crate below the program that is new or changed, and leave it as ./fjob'
+	@echo 'make build      prove every crate below the program that is new or changed (from nothing two processor hours), and leave it as ./fjob'
 	@echo 'make lib        the library for Fortran, C and Python, left in lib/out (docs/LINK.md); make check-lib tries it'
 	@echo 'make install    put ./fjob, and nothing else, into PREFIX/bin ($(PREFIX)/bin)'
 	@echo 'make install-lib  put the library into PREFIX/lib and PREFIX/include'
