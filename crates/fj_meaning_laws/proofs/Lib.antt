@@ -2,3 +2,8 @@ pub mod Membership
 pub mod Elements
 pub mod Needed
 pub mod Named
+pub mod Waits
+pub mod Comparing
+pub mod Concluded
+pub mod Connected
+pub mod Under
