@@ -1,1 +1,2 @@
 pub mod SpecifierProofs
+pub mod TransferProofs

@@ -1,5 +1,5 @@
 -- Each specifier of each statement, computed.
-use Rattle.std.proofs.Common.{◌≡◌, refl}
+use Rattle.std.proofs.Common.{refl}
 use Rattle.fj_modes.specs.FileName.{is_disk_name, is_file_name}
 use Rattle.fj_syntax.specs.Calls.{inquire_of, open_of, transfer_of}
 use Rattle.fj_syntax.specs.Given.{given_at, mode_at}

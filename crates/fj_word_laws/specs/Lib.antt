@@ -1,1 +1,2 @@
 pub mod Specifiers
+pub mod Transfers

@@ -1,6 +1,6 @@
 -- What each specifier gives, and each of its words: one field of the statement, and no other (ISO/IEC 1539-1:2004, 9.4.5, 9.4.6, 9.5.1, 9.9.1).
 use Prim.Native.String.{String}
-use Rattle.std.specs.Prelude.{◌≡◌, ℕ, Bool, true, false, List, [], ◌∷◌, map, Option, Some, None, codes}
+use Rattle.std.specs.Prelude.{◌≡◌, Bool, true, false, List, [], ◌∷◌, map, Option, Some, None, codes}
 use Rattle.fj_value.specs.declared.edit.Delim.TheVariants as delim
 use Rattle.fj_modes.specs.OpenSpec.{bare}
 use Rattle.fj_modes.specs.declared.asked.Question.{Question}
@@ -24,7 +24,6 @@ use Rattle.fj_syntax.specs.declared.written.Transfer.{Transfer}
 use Rattle.fj_syntax.specs.declared.written.Unit.TheVariants as unit
 use Rattle.fj_syntax.specs.declared.written.Subject.TheVariants as subject
 use Rattle.fj_syntax.specs.declared.written.Format.TheVariants as format
-use Rattle.fj_syntax.specs.declared.written.Written.{Written}
 use Rattle.fj_syntax.specs.declared.written.Written.TheVariants as written
 
 -- the variable N and the number 5, as they are read

@@ -2,6 +2,7 @@
 #![tactic(auto)]
 
 ghost use Rattle.fj_word_laws.specs.Specifiers.{OpenGives, ReadGives, WriteGives, CloseGives, InquireAsks};
+ghost use Rattle.fj_word_laws.specs.Transfers.{TransfersKeep};
 
 /// Each word of a specifier of OPEN gives its value, for the field of that specifier alone.
 pub fn open_gives()
@@ -26,4 +27,9 @@ pub fn close_gives()
 /// Each specifier of INQUIRE asks its own question, and no other.
 pub fn inquire_asks()
     ensures { InquireAsks }
+{}
+
+/// A READ or WRITE that has a meaning has in its statement what each of its specifiers gives, in the field of that specifier.
+pub fn transfers_keep()
+    ensures { TransfersKeep }
 {}
