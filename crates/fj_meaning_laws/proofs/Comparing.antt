@@ -1,8 +1,8 @@
 -- A transfer that becomes pending and is awaited, beside the same one carried out at once.
-use Rattle.std.proofs.Common.{◌≡◌, ◌≢◌, ℕ, ◌+◌, ◌<◌, Bool, true, false, not, List, [], ◌∷◌, ◌++◌, map, Option, Some, None, refl, sym, ap, ◌∙◌, subst, ◌&&◌, ◌||◌, arith}
+use Rattle.std.proofs.Common.{◌≡◌, ◌≢◌, ℕ, ◌+◌, ◌<◌, Bool, true, false, not, List, [], ◌∷◌, ◌++◌, map, get_or, Option, Some, None, refl, sym, ap, ◌∙◌, subst, ◌&&◌, ◌||◌, arith}
 use Rattle.std.specs.Prelude.{◌==◌, if◌then◌else◌, filter, is_some}
 use Rattle.std.specs.List.{All}
-use Rattle.std.proofs.lemmas.Bool.{eq-eqb, ne_eqb}
+use Rattle.std.proofs.lemmas.Bool.{eq-eqb, eqb-true, ne_eqb}
 use Rattle.std.proofs.lemmas.List.Elements.{All-head, All-tail, All-weaker}
 use Rattle.fj_value.specs.Condition.{code_of}
 use Rattle.fj_value.specs.declared.condition.Condition.{Condition}
@@ -14,11 +14,15 @@ use Rattle.fj_transfer.specs.Transfer.{Done, transfer_by, unfitness}
 use Rattle.fj_statement.specs.Units.{number_of}
 use Rattle.fj_statement.specs.declared.deck.Variable.{Variable}
 use Rattle.fj_statement.specs.declared.statement.Transfer.{Transfer}
+use Rattle.fj_statement.specs.declared.statement.Statement.{Statement}
+use Rattle.fj_statement.specs.declared.statement.Statement.TheVariants as statement
+use Rattle.fj_book.specs.Prohibitions.{prohibited}
 use Rattle.fj_store.specs.Variables.{Variables}
 use Rattle.fj_meaning.specs.State.{State, Files, Unit, Entry, Tell, found, with_unit, is_fine, halts}
+use Rattle.fj_meaning.specs.Needs.{need, holders}
 use Rattle.fj_meaning.specs.Items.{given_back}
-use Rattle.fj_meaning.specs.Telling.{of_unit, graver, waited, is_told, ends_halt, tell_of, after_tells, with_size, with_input}
-use Rattle.fj_meaning.specs.Transfers.{moved_by, spec_of, layout_of, unless_halted, halt_behind, unless_refused, on_unit, entry_of, without_values, with_number, with_values}
+use Rattle.fj_meaning.specs.Telling.{of_unit, graver, condition_of, waited, is_told, ends_halt, tell_of, after_tells, with_size, with_input}
+use Rattle.fj_meaning.specs.Transfers.{moved_by, spec_of, layout_of, refusal, unless_halted, halt_behind, unless_refused, on_unit, transfer_at, entry_of, without_values, with_number, with_values}
 use Rattle.fj_meaning.specs.Statement.{Stated, Ending, step, own, acts, acts_after, goes_on, completed, uncaught, unit_at}
 use Rattle.fj_meaning.specs.Reaching.{reached, fits, becomes_pending, cause_of}
 use Rattle.fj_meaning.proofs.Lists.{no, filter_where, filter_false}

@@ -1,9 +1,10 @@
 -- What becomes of a statement's condition.
-use Rattle.std.proofs.Common.{◌≡◌, ◌≢◌, ℕ, ℤ, Bool, true, false, List, [], ◌∷◌, map, Option, Some, None, refl, sym, ap, ◌∙◌, subst}
+use Rattle.std.proofs.Common.{◌≡◌, ◌≢◌, ℕ, ℤ, pos, negsuc, Bool, true, false, List, [], ◌∷◌, map, Option, Some, None, refl, sym, ap, ◌∙◌, subst}
 use Rattle.std.specs.Prelude.{if◌then◌else◌}
 use Rattle.fj_value.specs.Condition.{code_of}
 use Rattle.fj_value.specs.declared.condition.Condition.{Condition}
 use Rattle.fj_value.specs.declared.condition.Condition.TheVariants.{Fine, EndOfFile, EndOfRecord, Error}
+use Rattle.fj_value.specs.declared.condition.Rule.{Rule}
 use Rattle.fj_value.specs.declared.place.Place.{Place}
 use Rattle.fj_value.specs.declared.value.Value.{Value}
 use Rattle.fj_value.specs.declared.value.Value.TheVariants as value
@@ -11,18 +12,21 @@ use Rattle.fj_control.specs.Steps.{Given}
 use Rattle.fj_statement.specs.declared.deck.Variable.{Variable}
 use Rattle.fj_statement.specs.declared.statement.Statement.{Statement}
 use Rattle.fj_statement.specs.declared.statement.Statement.TheVariants as statement
+use Rattle.fj_book.specs.Prohibitions.{prohibited}
 use Rattle.fj_store.specs.Kinds.{of_kind}
-use Rattle.fj_store.specs.Tables.{element_at}
+use Rattle.fj_store.specs.Tables.{element_at, with_element}
 use Rattle.fj_store.specs.Variables.{Variables, with_value}
 use Rattle.fj_store.proofs.TableLemmas.{at_same, with_missing}
 use Rattle.fj_meaning.specs.Items.{kind_of}
+use Rattle.fj_meaning.specs.Needs.{need, holders}
 use Rattle.fj_meaning.specs.State.{State, Unit, Entry}
 use Rattle.fj_meaning.specs.Telling.{waited, condition_of, ends_halt, after_tells}
 use Rattle.fj_meaning.specs.Transfers.{with_number}
 use Rattle.fj_meaning.specs.UnitLaws.{joined, connections}
-use Rattle.fj_meaning.specs.Statement.{Stated, Ending, ended, error_stop, step, own, instead, acts, iostat_of, with_new_unit, next_new, new_place, defines, uncaught, ends, completed, goes_on}
+use Rattle.fj_meaning.specs.Statement.{Stated, Ending, ended, error_stop, step, own, instead, acts, iostat_of, with_new_unit, next_new, new_place, defines, uncaught, ends, completed, acts_after, goes_on}
+use Rattle.fj_meaning.proofs.Lists.{no}
 use Rattle.fj_meaning_laws.specs.Naming.{HasStatus, of_open, of_close, of_wait, of_motion, of_inquire, of_transfer}
-use Rattle.fj_meaning_laws.specs.Concluding.{IsCode, fine, file_ended, record_ended, error, Closes, by_close, by_end, IsUntouched, ConditionsConclude}
+use Rattle.fj_meaning_laws.specs.Concluding.{IsCode, fine, file_ended, record_ended, error, Closes, by_close, by_end, IsUntouched, Concludes, ConditionsConclude}
 use Rattle.fj_meaning_laws.proofs.Membership.{some_is}
 
 coded : (c : Condition) → IsCode c (code_of c)

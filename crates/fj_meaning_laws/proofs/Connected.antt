@@ -1,13 +1,17 @@
 -- What the motions, OPEN of the connected file and CLOSE do to a connection.
-use Rattle.std.proofs.Common.{◌≡◌, ◌≢◌, ℕ, Bool, true, false, not, Option, Some, None, unwrap_or, Ok, Err, refl, sym, ap, ◌∙◌, subst, ◌&&◌}
-use Rattle.std.specs.Prelude.{if◌then◌else◌}
+use Rattle.std.proofs.Common.{◌≡◌, ◌≢◌, ℕ, Bool, true, false, not, List, [], ◌∷◌, Option, Some, None, unwrap_or, Result, Ok, Err, refl, sym, ap, ◌∙◌, subst, ◌&&◌}
+use Rattle.std.specs.Prelude.{if◌then◌else◌, option_and_then}
+use Rattle.std.specs.Bool.{Decides}
+use Rattle.std.specs.Str.{bytes_eq}
 use Rattle.fj_value.specs.declared.condition.Condition.{Condition}
 use Rattle.fj_value.specs.declared.condition.Condition.TheVariants.{Fine, Error}
+use Rattle.fj_value.specs.declared.place.Place.{Place}
 use Rattle.fj_modes.specs.Modes.{IsConflict, IsChangeBy, is_conflict, edit_asked, settled}
 use Rattle.fj_modes.specs.Modes as mode
 use Rattle.fj_modes.specs.Words.{given_and, is_scratch}
 use Rattle.fj_modes.specs.declared.modes.Modes.{Modes}
 use Rattle.fj_modes.specs.declared.motion.Motion.{Motion}
+use Rattle.fj_modes.specs.declared.motion.Motion.TheVariants as motion
 use Rattle.fj_modes.specs.declared.specifiers.OpenSpec.{OpenSpec}
 use Rattle.fj_modes.specs.declared.specifiers.FileStatus.{FileStatus}
 use Rattle.fj_modes.specs.declared.specifiers.FileStatus.TheVariants.{Old, New, Scratch, Replace, Unknown}
@@ -15,21 +19,23 @@ use Rattle.fj_modes.proofs.Refusals.{is_conflict-decides}
 use Rattle.fj_modes.proofs.Reopening.{changed_takes_or_keeps}
 use Rattle.fj_connect.specs.Connection.{Connection}
 use Rattle.fj_connect.specs.Positions.{ended, moved}
-use Rattle.fj_connect.specs.PositionLaws.{Stands}
+use Rattle.fj_connect.specs.PositionLaws.{Stands, Errs}
 use Rattle.fj_connect.specs.declared.spot.Positioning.{Positioning}
 use Rattle.fj_connect.specs.declared.spot.Positioning.TheVariants as positioning
 use Rattle.fj_connect.proofs.ErrorProofs.{errs_exactly}
 use Rattle.fj_connect.proofs.MotionProofs.{moves_by_records}
 use Rattle.fj_bay.proofs.Keeping.{moved_kept}
+use Rattle.fj_control.specs.Steps.{Given}
 use Rattle.fj_statement.specs.Units.{number_of}
+use Rattle.fj_statement.specs.declared.deck.Variable.{Variable}
 use Rattle.fj_statement.specs.declared.unit.UnitRef.{UnitRef}
 use Rattle.fj_statement.specs.declared.statement.Statement.TheVariants as statement
-use Rattle.fj_meaning.specs.State.{State, Files, Unit, found, without_unit, with_connection, left, disconnected}
-use Rattle.fj_meaning.specs.Connecting.{keeps_name, keeps_file, with_modes, opens_with, opens_unit, closes, closes_anyway, with_move, moves}
-use Rattle.fj_meaning.specs.Statement.{own, unit_at, if_numbered}
+use Rattle.fj_meaning.specs.State.{State, Files, Unit, found, with_unit, without_unit, with_connection, left, keeps, disconnected, with_file, without_file}
+use Rattle.fj_meaning.specs.Connecting.{keeps_name, keeps_file, with_modes, opens_with, opens, opens_unit, closes, closes_anyway, with_move, moves}
+use Rattle.fj_meaning.specs.Statement.{own, instead, unit_at, if_numbered}
 use Rattle.fj_meaning.proofs.Lists.{no}
 use Rattle.fj_meaning.proofs.Units.{bytes_are, bytes_differ}
-use Rattle.fj_meaning_laws.specs.ConnectionLaws.{Positions, backspaces, rewinds, ends_file, IsMoved, MotionsMoveUnits, Reopens, names_no_file, names_its_file, OpenLeavesPosition, Deletes, is_told, is_told_to, is_scratch as of_scratch, is_no_scratch, IsClosed, CloseLeavesFile, DeletesAnyway, scratch_goes, told_to_delete, told_to_keep, told_nothing, CloseClosesAnyway}
+use Rattle.fj_meaning_laws.specs.ConnectionLaws.{IsWith, Positions, backspaces, rewinds, ends_file, IsMoved, Moves, MotionsMoveUnits, Reopens, names_no_file, names_its_file, IsReopened, OpenLeavesPosition, Deletes, is_told, is_told_to, is_scratch as of_scratch, is_no_scratch, IsClosed, CloseLeavesFile, DeletesAnyway, scratch_goes, told_to_delete, told_to_keep, told_nothing, CloseClosesAnyway}
 
 -- the unit of a number
 at_number : (s : State) (ref : UnitRef) (n : ℕ) (o : Option Unit) → number_of ref ≡ Some n → found s.units n ≡ o → unit_at s (number_of ref) ≡ o

@@ -1,5 +1,5 @@
 -- The places of operands, of internal files and of the items of a transfer, as lists and in words.
-use Rattle.std.proofs.Common.{◌≡◌, ℕ, zero, suc, ◌+◌, ◌<◌, ◌≤◌, max, List, [], slice_get, Option, Some, None, refl, sym, ap, ◌∙◌, subst, ◌⊎◌, inl, inr, arith}
+use Rattle.std.proofs.Common.{◌≡◌, ℕ, zero, suc, ◌+◌, ◌<◌, ◌≤◌, max, Bool, true, false, List, [], ◌∷◌, ◌++◌, slice_get, Option, Some, None, refl, sym, ap, ◌∙◌, subst, ◌⊎◌, inl, inr, arith}
 use Rattle.std.specs.Prelude.{◌==◌, if◌then◌else◌}
 use Rattle.std.specs.Option.{option_map_or}
 use Rattle.std.specs.List.{Contains, flat_map}
@@ -17,11 +17,12 @@ use Rattle.fj_statement.specs.declared.statement.Operand.TheVariants as operand
 use Rattle.fj_statement.specs.declared.statement.Control.{Control}
 use Rattle.fj_statement.specs.declared.statement.Control.TheVariants as control
 use Rattle.fj_statement.specs.declared.statement.Transfer.{Transfer}
+use Rattle.fj_statement.specs.Sound as sound
 use Rattle.fj_meaning.specs.State.{elements}
 use Rattle.fj_meaning.specs.Items.{places_of, operand_places, file_places}
 use Rattle.fj_meaning.specs.Needs.{if_given, given_places, group_places, transfer_places, internal_places}
 use Rattle.fj_meaning_laws.specs.Naming.{IsElement, IsOf, the_place, an_element, IsRecord, the_record, a_record, IsItem, of_item, of_member, IsInside, of_file}
-use Rattle.fj_meaning_laws.proofs.Membership.{nowhere, heads, tails, at_cons, only, flat_to, flat_from}
+use Rattle.fj_meaning_laws.proofs.Membership.{nowhere, some_is, heads, tails, at_cons, only, flat_to, flat_from}
 
 pub given_to : {X : Type 0} (o : Option X) (x : X) → Contains (if_given o) x → o ≡ Some x
 given_to None x at = nowhere x at

@@ -7,3 +7,4 @@ pub mod Comparing
 pub mod Concluded
 pub mod Connected
 pub mod Under
+pub mod Opened

@@ -1,10 +1,11 @@
 -- Each place and each array that stands in a statement is referenced or defined.
-use Rattle.std.proofs.Common.{◌≡◌, ℕ, Bool, true, false, List, ◌++◌, map, Option, Some, None, refl, sym, ap, ◌∙◌, subst, ◌⊎◌, inl, inr}
+use Rattle.std.proofs.Common.{◌≡◌, ℕ, Bool, true, false, List, [], ◌∷◌, ◌++◌, map, Option, Some, None, refl, sym, ap, ◌∙◌, subst, ◌⊎◌, inl, inr}
 use Rattle.std.specs.List.{Contains, flat_map}
 use Rattle.fj_value.specs.declared.place.Place.{Place}
 use Rattle.fj_modes.specs.declared.asked.Wanted.{Wanted}
 use Rattle.fj_statement.specs.declared.deck.Variable.{Variable}
 use Rattle.fj_statement.specs.declared.unit.UnitRef.{UnitRef}
+use Rattle.fj_statement.specs.declared.unit.UnitRef.TheVariants as unit
 use Rattle.fj_statement.specs.declared.unit.Subject.{Subject}
 use Rattle.fj_statement.specs.declared.unit.Subject.TheVariants as subject
 use Rattle.fj_statement.specs.declared.statement.Operand.{Operand}
@@ -19,7 +20,7 @@ use Rattle.fj_statement.specs.Sound.{members_of}
 use Rattle.fj_statement.specs.Naming.{if_given, place_of, place_given, transfer_places, unit_places, subject_places, named_places, array_of, named_variables}
 use Rattle.fj_meaning_laws.specs.Naming.{IsElement, IsOf, the_place, an_element, IsItem, of_item, of_member, References, right_side, written_item, place_of_unit, by_rec, by_pos, id_of_wait, id_of_inquire, HasStatus, of_open, of_close, of_wait, of_motion, of_inquire, of_transfer, Specifies, status, by_size, by_id, new_unit, answer, Defines, specified, left_side, read_item}
 use Rattle.fj_meaning_laws.specs.NamingLaws.{IsOpen, HasNewUnitAsOpen}
-use Rattle.fj_meaning_laws.proofs.Membership.{nowhere, only, flat_to, map_to}
+use Rattle.fj_meaning_laws.proofs.Membership.{nowhere, only, heads, flat_to, map_to}
 use Rattle.fj_meaning_laws.proofs.Needed.{either, held_is, new_is}
 
 given_is : {X : Type 0} (o : Option X) (x : X) → Contains (if_given o) x → o ≡ Some x

@@ -1,5 +1,5 @@
 -- The lists that prohibitions look at have just the places that a statement references, defines and specifies.
-use Rattle.std.proofs.Common.{◌≡◌, ℕ, Bool, true, false, List, [], ◌∷◌, ◌++◌, Option, Some, None, refl, sym, ap, ◌∙◌, subst, ◌⊎◌, inl, inr}
+use Rattle.std.proofs.Common.{◌≡◌, ℕ, Bool, true, false, List, [], ◌∷◌, ◌++◌, map, Option, Some, None, refl, sym, ap, ◌∙◌, subst, ◌⊎◌, inl, inr, arith}
 use Rattle.std.specs.Prelude.{if◌then◌else◌}
 use Rattle.std.specs.List.{Contains}
 use Rattle.std.proofs.lemmas.List.Elements.{Contains-append_left, Contains-append_right, Contains-append_cases}
@@ -17,9 +17,9 @@ use Rattle.fj_statement.specs.declared.statement.Statement.TheVariants as statem
 use Rattle.fj_statement.specs.Units.{unit_of, place_held, place_new}
 use Rattle.fj_meaning.specs.State.{State}
 use Rattle.fj_meaning.specs.Needs.{need, if_given, given_places, unit_places, subject_places, transfer_places, internal_places, wanted_places}
-use Rattle.fj_meaning_laws.specs.Naming.{References, right_side, written_item, file_read, place_of_unit, by_rec, by_pos, id_of_wait, id_of_inquire, HasStatus, of_open, of_close, of_wait, of_motion, of_inquire, of_transfer, Specifies, status, by_size, by_id, new_unit, answer, Defines, specified, left_side, read_item, file_written}
+use Rattle.fj_meaning_laws.specs.Naming.{IsOf, IsItem, IsInside, References, right_side, written_item, file_read, place_of_unit, by_rec, by_pos, id_of_wait, id_of_inquire, HasStatus, of_open, of_close, of_wait, of_motion, of_inquire, of_transfer, Specifies, status, by_size, by_id, new_unit, answer, Defines, specified, left_side, read_item, file_written}
 use Rattle.fj_meaning_laws.specs.NamingLaws.{Moves, moves_item, Enters, enters_file, IsNeeded}
-use Rattle.fj_meaning_laws.proofs.Membership.{nowhere, some_is, heads, map_to, map_from}
+use Rattle.fj_meaning_laws.proofs.Membership.{nowhere, some_is, heads, only, map_to, map_from}
 use Rattle.fj_meaning_laws.proofs.Elements.{given_to, given_from, of_to, of_from, operand_to, operand_from, item_to, item_from, inside_to, inside_from}
 
 -- of two lists one behind the other

@@ -1,5 +1,5 @@
 -- The modes of a statement and of its connection are those of the transfer.
-use Rattle.std.proofs.Common.{◌≡◌, ℕ, ℤ, pos, negsuc, ◌+◌, ◌-◌, ◌==◌, ◌||◌, nat_lt, Bool, true, false, not, List, Option, Some, None, unwrap_or, Ok, Err, refl, ap, ◌∙◌, subst, length}
+use Rattle.std.proofs.Common.{◌≡◌, ℕ, ℤ, pos, negsuc, ◌+◌, ◌-◌, ◌==◌, ◌||◌, nat_lt, Bool, true, false, not, List, Option, Some, None, unwrap_or, Result, Ok, Err, refl, sym, ap, ◌∙◌, subst, length}
 use Rattle.std.specs.Prelude.{if◌then◌else◌, IfOk}
 use Rattle.fj_value.specs.declared.condition.Condition.{Condition}
 use Rattle.fj_value.specs.declared.condition.Condition.TheVariants.{Fine, Error}
@@ -23,10 +23,10 @@ use Rattle.fj_statement.specs.declared.statement.Transfer.{Transfer}
 use Rattle.fj_statement.specs.declared.statement.Statement.TheVariants as statement
 use Rattle.fj_meaning.specs.State.{State, Unit, found}
 use Rattle.fj_meaning.specs.Telling.{is_asynchronous}
-use Rattle.fj_meaning.specs.Transfers.{layout_of, moved_by, spec_of, refusal, carried_out, made_pending, unless_refused, on_unit, star_limit, printed_to, transfer_at}
+use Rattle.fj_meaning.specs.Transfers.{layout_of, moved_by, spec_of, refusal, carried_out, made_pending, unless_refused, on_unit, transferred, star_limit, printed_to, transfer_at}
 use Rattle.fj_meaning.specs.Statement.{own}
 use Rattle.fj_meaning.proofs.AtOnce.{numbered_at}
-use Rattle.fj_meaning_laws.specs.ModeLaws.{AreInEffect, done_under, IsUnder, TransfersUnderModes, StarPrintsUnderModes}
+use Rattle.fj_meaning_laws.specs.ModeLaws.{AreInEffect, done_under, IsUnder, TransfersUnderModes, modes_of_star, StarPrintsUnderModes}
 
 -- a place of the connection has its modes
 placed_modes : (c : Connection) (spec : TransferSpec) → IfOk (begins_at spec c) (λ (b : Connection). b.modes ≡ c.modes)

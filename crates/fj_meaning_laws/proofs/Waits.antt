@@ -1,5 +1,5 @@
 -- The transfers that a statement waits for, as a list and in words.
-use Rattle.std.proofs.Common.{◌≡◌, ◌≢◌, ℕ, ℤ, pos, Bool, true, false, not, List, [], ◌∷◌, map, get_or, Option, Some, None, unwrap_or, refl, sym, ap, ◌∙◌, subst, ◌⊎◌, inl, inr, ◌&&◌, ◌||◌}
+use Rattle.std.proofs.Common.{◌≡◌, ◌≢◌, ℕ, ℤ, pos, Bool, true, false, not, List, [], ◌∷◌, ◌++◌, map, get_or, Option, Some, None, unwrap_or, refl, sym, ap, ◌∙◌, subst, ◌⊎◌, inl, inr, ◌&&◌, ◌||◌}
 use Rattle.std.specs.Prelude.{◌==◌, ◌↔◌, if◌then◌else◌, filter}
 use Rattle.std.specs.List.{All, Contains, list_any}
 use Rattle.std.specs.Ordering.{int_eq}
@@ -24,12 +24,13 @@ use Rattle.fj_statement.specs.Units.{number_of}
 use Rattle.fj_book.specs.Prohibitions.{prohibited}
 use Rattle.fj_meaning.specs.State.{State, Files, Entry, halts}
 use Rattle.fj_meaning.specs.Items.{value_of, integer_of}
-use Rattle.fj_meaning.specs.Needs.{need, holders, number_given}
-use Rattle.fj_meaning.specs.Telling.{of_unit, of_id, graver, condition_of, waited_by, is_asynchronous, waited, tell_of}
+use Rattle.fj_meaning.specs.Needs.{need, holders, number_given, number_of_subject}
+use Rattle.fj_meaning.specs.Telling.{of_unit, of_id, graver, condition_of, waited_by, if_done, is_asynchronous, waited, tell_of}
 use Rattle.fj_meaning.specs.Statement.{Stated, step, unit_at}
 use Rattle.fj_meaning.specs.Reaching.{reached, fits, becomes_pending}
 use Rattle.fj_meaning.specs.PendingLaws.{Turns}
 use Rattle.fj_meaning.proofs.Lists.{no, filter_true, filter_false, filter_two, none_passes}
+use Rattle.fj_meaning.proofs.Sound.{Sound}
 use Rattle.fj_meaning.proofs.Reached.{sound_reached}
 use Rattle.fj_meaning.proofs.Turning.{turns}
 use Rattle.fj_meaning_laws.specs.Awaiting.{WaitsForAll, by_open, by_close, by_motion, by_transfer, by_wait, by_question, WaitsForOne, by_wait_id, by_question_id, IsNamed, IsGrave, error, file_ended, Awaits, all_of_unit, the_one, beside_it, at_end}
@@ -283,26 +284,26 @@ abbrev IsUnknown : Option Bool → Type 0
 IsUnknown (Some true) = ⊥
 IsUnknown _ = Unit {0}
 
-unknown_all : (about : Subject) (asked : List Wanted) (id : Option Operand) (status : Option Place) (done : Option Bool) → IsUnknown done → (n : ℕ)
-    → ForAll (statement.Inquire about asked id status done) n → ⊥
-unknown_all (subject.File name) asked id status k h n a = a
-unknown_all (subject.Unit u) asked (Some id) status k h n a = a
+unknown_all : (about : Subject) (asked : List Wanted) (id : Option Operand) (status : Option Place) (look : Option Bool) → IsUnknown look → (n : ℕ)
+    → ForAll (statement.Inquire about asked id status look) n → ⊥
+unknown_all (subject.File name) asked id status look h n a = a
+unknown_all (subject.Unit u) asked (Some id) status look h n a = a
 unknown_all (subject.Unit u) asked None status None h n a = a
 unknown_all (subject.Unit u) asked None status (Some false) h n a = a
 unknown_all (subject.Unit u) asked None status (Some true) h n a = h
 
-unknown_one : (about : Subject) (asked : List Wanted) (id : Option Operand) (status : Option Place) (done : Option Bool) → IsUnknown done → (n : ℕ) (i : Operand)
-    → ForOne (statement.Inquire about asked id status done) n i → ⊥
-unknown_one (subject.File name) asked id status k h n i a = a
-unknown_one (subject.Unit u) asked None status k h n i a = a
+unknown_one : (about : Subject) (asked : List Wanted) (id : Option Operand) (status : Option Place) (look : Option Bool) → IsUnknown look → (n : ℕ) (i : Operand)
+    → ForOne (statement.Inquire about asked id status look) n i → ⊥
+unknown_one (subject.File name) asked id status look h n i a = a
+unknown_one (subject.Unit u) asked None status look h n i a = a
 unknown_one (subject.Unit u) asked (Some id) status None h n i a = a
 unknown_one (subject.Unit u) asked (Some id) status (Some false) h n i a = a
 unknown_one (subject.Unit u) asked (Some id) status (Some true) h n i a = h
 
-unknown_waited : (s : State) (about : Subject) (asked : List Wanted) (id : Option Operand) (status : Option Place) (done : Option Bool) → IsUnknown done
-    → Exactly s (statement.Inquire about asked id status done) []
-unknown_waited s about asked id status done h =
-    none_waited s (statement.Inquire about asked id status done) (λ e. no (ap is_end e)) (unknown_all about asked id status done h) (unknown_one about asked id status done h)
+unknown_waited : (s : State) (about : Subject) (asked : List Wanted) (id : Option Operand) (status : Option Place) (look : Option Bool) → IsUnknown look
+    → Exactly s (statement.Inquire about asked id status look) []
+unknown_waited s about asked id status look h =
+    none_waited s (statement.Inquire about asked id status look) (λ e. no (ap is_end e)) (unknown_all about asked id status look h) (unknown_one about asked id status look h)
 
 transfer_waited : (s : State) (t : Transfer) (b : Bool) → is_asynchronous t ≡ b → Exactly s (statement.Transfer t) (if b then [] else of_unit s.book (number_of t.unit))
 transfer_waited s t true e = none_waited s (statement.Transfer t) (λ h. no (ap is_end h)) (λ n h. no (sym h.0 ∙ e)) (λ n i h. h)

@@ -1,5 +1,6 @@
 -- What becomes of a statement's condition: IOSTAT= gets its number, or it ends the deck (ISO/IEC 1539-1:2004, 9.10.4); and where it comes from.
-use Rattle.std.specs.Prelude.{Bool, ◌≡◌, ◌≢◌, ℕ, ℤ, pos, negsuc, List, Option, Some, None}
+use Rattle.std.specs.Prelude.{◌≡◌, ◌≢◌, ℕ, ℤ, pos, negsuc, Bool, List, Option, Some, None}
+use Rattle.std.specs.List.{All}
 use Rattle.fj_value.specs.declared.condition.Condition.{Condition}
 use Rattle.fj_value.specs.declared.condition.Condition.TheVariants.{Fine, EndOfFile, EndOfRecord, Error}
 use Rattle.fj_value.specs.declared.place.Place.{Place}
@@ -14,9 +15,9 @@ use Rattle.fj_store.specs.Kinds.{of_kind}
 use Rattle.fj_store.specs.Tables.{element_at}
 use Rattle.fj_meaning.specs.Items.{kind_of}
 use Rattle.fj_meaning.specs.Needs.{need, holders}
-use Rattle.fj_meaning.specs.State.{State}
+use Rattle.fj_meaning.specs.State.{State, Entry}
 use Rattle.fj_meaning.specs.Telling.{waited, condition_of, after_tells}
-use Rattle.fj_meaning.specs.Statement.{Stated, ended, error_stop, step, own}
+use Rattle.fj_meaning.specs.Statement.{Stated, Ending, ended, error_stop, step, own}
 use Rattle.fj_meaning.specs.UnitLaws.{connections}
 use Rattle.fj_meaning_laws.specs.Naming.{HasStatus}
 

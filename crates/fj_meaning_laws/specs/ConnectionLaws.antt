@@ -1,6 +1,7 @@
 -- What the motions, OPEN of the connected file and CLOSE do to the connection of their unit, and to nothing else
 -- (ISO/IEC 1539-1:2004, 9.4.5, 9.4.6, 9.7).
 use Rattle.std.specs.Prelude.{◌≡◌, ◌≢◌, ℕ, Bool, true, false, List, Option, Some, None}
+use Rattle.fj_value.specs.declared.condition.Condition.{Condition}
 use Rattle.fj_value.specs.declared.condition.Condition.TheVariants.{Fine, Error}
 use Rattle.fj_value.specs.declared.place.Place.{Place}
 use Rattle.fj_modes.specs.Modes.{IsConflict, IsChangeBy}

@@ -5,4 +5,5 @@ pub mod AwaitingLaws
 pub mod LaterLaws
 pub mod Concluding
 pub mod ConnectionLaws
+pub mod OpenLaws
 pub mod ModeLaws

@@ -1,6 +1,7 @@
 -- Under which modes a transfer is carried out: those that the statement names, and else those of the connection, or of `*`
 -- (ISO/IEC 1539-1:2004, 9.4.5, 9.5.1).
-use Rattle.std.specs.Prelude.{◌≡◌, ℕ, true, false, List, Some, Ok, if◌then◌else◌}
+use Rattle.std.specs.Prelude.{◌≡◌, ℕ, true, false, List, Option, Some, Ok, if◌then◌else◌}
+use Rattle.fj_value.specs.declared.condition.Condition.{Condition}
 use Rattle.fj_value.specs.declared.condition.Condition.TheVariants.{Fine}
 use Rattle.fj_value.specs.declared.edit.EditModes.{EditModes}
 use Rattle.fj_value.specs.declared.edit.Delim.TheVariants.{Plain}

@@ -1,5 +1,5 @@
 -- What a statement references, defines and specifies: a line for each way (ISO/IEC 1539-1:2004, 9.5.1.4, 16.5.5, 16.5.6).
-use Rattle.std.specs.Prelude.{◌≡◌, ℕ, Bool, true, false, List, Option, Some}
+use Rattle.std.specs.Prelude.{◌≡◌, ℕ, Bool, true, false, List, Option, Some, None}
 use Rattle.std.specs.List.{Contains}
 use Rattle.fj_value.specs.declared.place.Place.{Place}
 use Rattle.fj_modes.specs.declared.asked.Wanted.{Wanted}

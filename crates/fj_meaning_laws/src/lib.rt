@@ -11,6 +11,7 @@ mod waiting_laws;
 pub use concluding_laws::conditions_conclude;
 pub use connection_laws::{
     close_closes_anyway, close_leaves_file, motions_move_units, open_leaves_position,
+    opens_in_order,
 };
 pub use mode_laws::{star_prints_under_modes, transfers_under_modes};
 pub use naming_laws::{named_places_are_needed, needs_are_named};
